@@ -1,0 +1,4 @@
+pub mod Arithmetic
+pub mod Lists
+pub mod Sums
+pub mod Pairs

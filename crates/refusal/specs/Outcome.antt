@@ -1,0 +1,50 @@
+-- What a call comes to, and how its first fault is found (01, "Where each fault is met": top to bottom, first fault wins).
+use mathlib.Core.Path.{_≡_, refl}
+use mathlib.Core.Bool.{Bool, true, false}
+use mathlib.Core.List.{List, [], _∷_, _++_}
+use Prim.Native.Nat.{ℕ}
+use Rattle.refusal.specs.declared.Refusal.{Refusal}
+use Rattle.refusal.specs.declared.Fault.{Fault}
+use Rattle.refusal.specs.declared.Fault.the-variants.{Clear, Met}
+use Rattle.refusal.specs.Refusal.{numberOf}
+
+-- an answer in 01's terms: the number of a refusal, or the values
+pub data Outcome (A : Type 0) : Type 0 where
+  refused : ℕ → Outcome A
+  answered : A → Outcome A
+
+-- a refusal stands; an answer goes on
+abbrev pub andThen : {A B : Type 0} → Outcome A → (A → Outcome B) → Outcome B
+andThen (refused k) f = refused k
+andThen (answered a) f = f a
+
+-- a row of the table for one call: the refusal, and whether its condition is met
+abbrev pub Check : Type 0
+Check = Refusal × Bool
+
+abbrev pub firstOf : Refusal → Bool → Fault → Fault
+firstOf r true rest = Met r
+firstOf r false rest = rest
+
+-- the rows of a call, read from the top: the first fault wins
+abbrev pub firstFault : List Check → Fault
+firstFault [] = Clear
+firstFault (c ∷ cs) = firstOf (c .0) (c .1) (firstFault cs)
+
+-- two runs of rows, one after the other
+abbrev pub orElse : Fault → Fault → Fault
+orElse Clear g = g
+orElse (Met r) g = Met r
+
+-- the outcome of a call that answers `a` where it meets no fault
+abbrev pub judged : {A : Type 0} → Fault → Outcome A → Outcome A
+judged Clear a = a
+judged (Met r) a = refused (numberOf r)
+
+pub firstFault-append : (cs ds : List Check) → firstFault (cs ++ ds) ≡ orElse (firstFault cs) (firstFault ds)
+firstFault-append [] ds = refl
+firstFault-append (c ∷ cs) ds = go (c .1) (firstFault-append cs ds)
+  where
+    go : (b : Bool) → firstFault (cs ++ ds) ≡ orElse (firstFault cs) (firstFault ds) → firstOf (c .0) b (firstFault (cs ++ ds)) ≡ orElse (firstOf (c .0) b (firstFault cs)) (firstFault ds)
+    go true h = refl
+    go false h = h
