@@ -6,8 +6,8 @@ use Prim.Native.Nat.{ℕ, zero, suc, _+_, _*_, _/_, _%_, _≤_, _<_, _^_}
 use native.Mathlib.Nat.{zero-add, add-zero, add-suc, suc-add, pow-succ'}
 use native.Mathlib.Omega.{arith}
 use lib.Dec.{ltb}
-use lib.ListN.{length, getD, drop, set, length-append, length-drop}
-use lib.Seq.{sets}
+use lib.ListN.{length, getD, take, drop, set, length-append, length-take, length-drop}
+use lib.Seq.{sets, sets-eq, length-sets, take-at, drop-at}
 use borrow.Author.Tests.{lt-ltb, le-ltb, ltb-true, ltb-false}
 use Rattle.trial.specs.Numbers.{lastDigits, decimal}
 use Rattle.trial.specs.Trial.{printed}
@@ -21,9 +21,9 @@ pub record Writes (text before : List ℕ) (at : ℕ) (after : List ℕ) (r : �
 
 -- the text that is printed for an input stands at the start of a buffer, whose other bytes are as before; r is its length
 pub record Prints (input before after : List ℕ) (r : ℕ) : Type 0 where
-  pub text : after ≡ sets before 0 (printed input)
   pub count : r ≡ length (printed input)
-  pub within : r ≤ length after
+  pub text : take r after ≡ printed input
+  pub rest : drop r after ≡ drop r before
 
 -- position p and metric m, on a line
 abbrev pub rowLine : ℕ → ℕ → List ℕ
@@ -53,7 +53,22 @@ writes-both {s} {t} {before} {middle} {after} {i} {j} {k} a b =
     }
 
 pub prints : (input text before after : List ℕ) (r : ℕ) → text ≡ printed input → Writes text before 0 after r → Prints input before after r
-prints input text before after r e w = record { text = rw e at (w .holds); count = w .end ∙ zero-add (length text) ∙ ap length e; within = w .fits }
+prints input text before after r e w =
+    let n : r ≡ length text = w .end ∙ zero-add (length text) in
+    let h : 0 + length text ≤ length before = omega (arith, w .fits, w .end, ap length (w .holds), length-sets before 0 text) in
+    let whole : after ≡ text ++ drop (0 + length text) before = w .holds ∙ sets-eq text before 0 h in
+    record {
+      count = n ∙ ap length e;
+      text = rw whole (take-at text (drop (0 + length text) before) r (sym n)) ∙ e;
+      rest = rw whole (drop-at text (drop (0 + length text) before) r (sym n)) ∙ ap (λ (k : ℕ). drop k before) (sym (w .end));
+    }
+
+-- what a caller lends of the buffer: its first r bytes
+pub prints-taken : {input before after : List ℕ} {r : ℕ} → Prints input before after r → r ≡ length (take r after)
+prints-taken p = p .count ∙ sym (ap length (p .text))
+
+pub prints-within : {input before after : List ℕ} {r : ℕ} → Prints input before after r → r ≤ length after
+prints-within {input} {before} {after} {r} p = omega (arith, prints-taken p, length-take r after)
 
 -- ---- decimal digits: the count of digits that are looked for does not matter
 last-same : (j k n : ℕ) → n < j → n < k → lastDigits j n ≡ lastDigits k n
