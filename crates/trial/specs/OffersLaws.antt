@@ -1,14 +1,12 @@
 -- Laws of the loop over the offers: what is kept of the hold, and what the rest of the tokens says. Assumes nothing.
 use mathlib.Core.Path.{_≡_, refl, sym, ap, _∙_}
 use mathlib.Core.Bool.{Bool, true, false, cond, _&&_}
-use mathlib.Core.List.{List, [], _∷_, _++_, map, append-assoc, append-nil}
+use mathlib.Core.List.{List, [], _∷_, _++_, append-assoc, append-nil}
 use mathlib.Core.Option.{Option, none, some, Option·map, bind}
-use Prim.Native.Nat.{ℕ, suc, _+_, _*_, _≤_, _<_, _^_}
+use Prim.Native.Nat.{ℕ, _+_, _*_, _≤_, _<_, _^_}
 use native.Mathlib.Omega.{arith}
 use lib.ListN.{length, getD, take, drop, drop-of-length-le}
-use lib.Ieee.{Float, toUnsigned}
 use Rattle.refusal.specs.declared.Position.{Position}
-use Rattle.hold.specs.declared.Block.{Block}
 use Rattle.hold.specs.declared.Held.{Held}
 use Rattle.hold.specs.declared.Held.the-variants.{Empty, At}
 use Rattle.hold.specs.declared.Candidate.{Candidate}
@@ -21,9 +19,9 @@ use Rattle.hold.specs.Offer.{Room, atLeast, due, greater, taken, keeping, relea
 use Rattle.hold.specs.History.{Offer, Detection}
 use Rattle.hold.specs.Releases.{released, releases}
 use Rattle.trial.specs.declared.Ran.the-variants.{BadOffers, Rows}
-use Rattle.trial.specs.Trial.{Token, numberIn, candidateIn, offersIn}
+use Rattle.trial.specs.Trial.{Token, offersIn}
 use Rattle.trial.specs.Scan.{tokenIn, tokensIn}
-use Rattle.trial.specs.Run.{Whole, WholeCandidate, WholeHeld, WholeRelease, Kept, BringsCandidate, rowsOf, Stores, RunsOffers}
+use Rattle.trial.specs.Run.{WholeCandidate, WholeHeld, WholeRelease, Kept, BringsCandidate, rowsOf, Stores, RunsOffers}
 use Rattle.trial.specs.ScanLaws.{drop-two}
 use Rattle.trial.specs.RunLaws.{numberIn-small, numberIn-above, brings-nothing}
 

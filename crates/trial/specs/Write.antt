@@ -8,7 +8,7 @@ use native.Mathlib.Omega.{arith}
 use lib.Dec.{ltb}
 use lib.ListN.{length, getD, take, drop, set, length-append, length-take, length-drop}
 use lib.Seq.{sets, sets-eq, length-sets, take-at, drop-at}
-use borrow.Author.Tests.{lt-ltb, le-ltb, ltb-true, ltb-false}
+use borrow.Author.Tests.{lt-ltb, le-ltb, ltb-false}
 use Rattle.trial.specs.Numbers.{lastDigits, decimal}
 use Rattle.trial.specs.Trial.{printed}
 use Rattle.trial.specs.ScanLaws.{drop-two}
@@ -91,9 +91,6 @@ unfolding decimal lastDigits
 decimal-more n h = rw (le-ltb n 10 h) (ap (λ (l : List ℕ). l ++ ((48 + n % 10) ∷ [])) (last-same n (suc (n / 10)) (n / 10) (omega arith) (omega arith)))
 
 -- ---- how long
-pub decimal-longer : (n : ℕ) → 10 ≤ n → length (decimal n) ≡ length (decimal (n / 10)) + 1
-decimal-longer n h = ap length (decimal-more n h) ∙ length-append (decimal (n / 10)) ((48 + n % 10) ∷ [])
-
 last-length : (j k n : ℕ) → n < 10 ^ k → 0 < k → length (lastDigits j n) ≤ k
 unfolding lastDigits
 last-length zero k n h g = omega arith
@@ -107,9 +104,9 @@ last-length (suc j) (suc (suc k)) n h g =
     go l true = omega arith
     go l false = omega arith
 
-pub decimal-length : (n : ℕ) → n < 2 ^ 64 → length (decimal n) ≤ 20
+pub tenth-length : (n : ℕ) → n < 2 ^ 64 → length (decimal (n / 10)) ≤ 19
 unfolding decimal
-decimal-length n h = last-length (suc n) 20 n (omega arith) (omega arith)
+tenth-length n h = last-length (suc (n / 10)) 19 (n / 10) (omega arith) (omega arith)
 
 -- ---- the lines of a row, pair by pair
 short-lines : (l : List ℕ) → length l ≤ 1 → rowLines l ≡ []

@@ -245,8 +245,8 @@ fn write_byte(b: u8, out: &mut [u8], at: usize) -> usize
 }
 
 fn write_decimal(n: u64, out: &mut [u8], at: usize) -> usize
-    requires { ⌜ at + length (decimal n) ≤ length (now out) ⌝ }
-    ensures { λ r. ⌜ Writes (decimal n) (now (out .entry)) at (now (out .exit)) r ⌝ }
+    requires { ⌜ at + 20 ≤ length (now out) ⌝ }
+    ensures { λ r. ⌜ Writes (decimal n) (now (out .entry)) at (now (out .exit)) r × (r ≤ at + 20) ⌝ }
 {
     if n < 10 {
         return write_byte(b'0' + n as u8, out, at);

@@ -1,5 +1,4 @@
 -- `trial::store` meets its contract: nothing is stored, or two numbers. Assumes nothing.
-use mathlib.Core.Path.{_≡_, sym, _∙_}
 use lib.ListN.{length-set}
 use Rattle.trial.specs.RunLaws.{whole-in-u64, stores-none, stores-release}
 use borrow.Author.Needs.{needs}
