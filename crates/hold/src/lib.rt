@@ -207,3 +207,12 @@ pub fn lone_offer(h: Hold, p: Position, c: Candidate) -> LoneOffered
         next,
     }
 }
+
+// A lone offer over a hold that the caller keeps: each offer changes it.
+pub fn lone_offer_to(h: &mut Hold, p: Position, c: Candidate) -> LoneAnswer
+    ensures { λ r. ⌜ LoneOffers (now (h .entry)) p c r (now (h .exit)) ⌝ }
+{
+    let o = lone_offer(*h, p, c);
+    *h = o.next;
+    o.answer
+}
