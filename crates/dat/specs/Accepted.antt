@@ -96,13 +96,13 @@ row-in n m c j C J =
 
 -- rows of a layout: at most 13 × 450 entries
 pub rows-small : (l : Layout) (c m : ℕ) → Sized l → c ≤ l .nc → m ≤ 450 → c * m ≤ 5850
-rows-small l c m z C M = le-trans (mul-le-mul C M) (mul-le-mul-right 450 (z .nc-high))
+rows-small l c m z C M = le-trans (mul-le-mul C M) (mul-le-mul-right 450 (z .nc-most))
 
 pub phasors-small : (l : Layout) → Sized l → l .nc * l .nsym ≤ 5850
-phasors-small l z = rows-small l (l .nc) (l .nsym) z (omega arith) (z .nsym-high)
+phasors-small l z = rows-small l (l .nc) (l .nsym) z (omega arith) (z .nsym-most)
 
 pub table-small : (l : Layout) → Sized l → l .nc * (l .markers + l .nsym) ≤ 13 * 468
-table-small l z = mul-le-mul {m₂ = 468} (z .nc-high) (let a = z .markers-high in let b = z .nsym-high in omega arith)
+table-small l z = mul-le-mul {m₂ = 468} (z .nc-most) (let a = z .markers-most in let b = z .nsym-most in omega arith)
 
 -- a carrier of a table of the right length
 pub record InTable (l : Layout) (table : List ℕ) (c : ℕ) : Type 0 where
@@ -112,10 +112,10 @@ pub record InTable (l : Layout) (table : List ℕ) (c : ℕ) : Type 0 where
 
 module _ (l : Layout) (table : List ℕ) (c : ℕ) (t : InTable l table c) where
   pub values-small : c * l .markers ≤ 5850
-  values-small = rows-small l c (l .markers) (t .sized) (omega arith) (omega (arith, t .sized .markers-high))
+  values-small = rows-small l c (l .markers) (t .sized) (omega arith) (omega (arith, t .sized .markers-most))
 
   pub flags-small : (l .nc * l .markers ≤ 5850) × (c * l .nsym ≤ 5850)
-  flags-small = (rows-small l (l .nc) (l .markers) (t .sized) (omega arith) (omega (arith, t .sized .markers-high)), rows-small l c (l .nsym) (t .sized) (omega arith) (t .sized .nsym-high))
+  flags-small = (rows-small l (l .nc) (l .markers) (t .sized) (omega arith) (omega (arith, t .sized .markers-most)), rows-small l c (l .nsym) (t .sized) (omega arith) (t .sized .nsym-most))
 
   pub value-in : (k : ℕ) → k < l .markers → c * l .markers + k < length table
   value-in k K =
@@ -126,7 +126,7 @@ module _ (l : Layout) (table : List ℕ) (c : ℕ) (t : InTable l table c) where
 
   pub values-in : (k : ℕ) → k ≤ l .markers → c * l .markers + k ≤ length table
   values-in k K =
-      let m = t .sized .markers-low in
+      let m = t .sized .markers-least in
       let a = value-in (l .markers - 1) (omega arith) in
       omega arith
 

@@ -23,14 +23,14 @@ picked true b = b
 picked false b = not b
 
 -- the marks of carrier c, rising
-unfoldable pub marks : Layout → List ℕ → ℕ → List ℕ
+unfoldable pub marksOf : Layout → List ℕ → ℕ → List ℕ
 unfolding symbolsWhere marked
-marks l table c = symbolsWhere (marked l table c) (l .nsym - 1)
+marksOf l table c = symbolsWhere (marked l table c) (l .nsym - 1)
 
 -- "Every other symbol from 1 to nsym − 1 is a data cell."
-unfoldable pub cells : Layout → List ℕ → ℕ → List ℕ
+unfoldable pub cellsOf : Layout → List ℕ → ℕ → List ℕ
 unfolding symbolsWhere marked
-cells l table c = symbolsWhere (λ s. not (marked l table c s)) (l .nsym - 1)
+cellsOf l table c = symbolsWhere (λ s. not (marked l table c s)) (l .nsym - 1)
 
 -- a symbol of a carrier
 pub record Cell : Type 0 where

@@ -12,9 +12,10 @@ use lib.ListN.{length, length-append, length-map}
 use borrow.Author.Tests.{eqb-true, eqb-false, eq-eqb, ne-eqb, ltb-false}
 use Rattle.refusal.specs.Any.{any, any-below}
 use Rattle.level.specs.declared.Layout.{Layout}
+use Rattle.level.specs.Lengths.{cells}
 use Rattle.level.specs.Sized.{Sized}
 use Rattle.dat.specs.Tables.{value, marked, badValue, wrongValue}
-use Rattle.dat.specs.Cells.{symbolsWhere, marks, cells, Cell, cellAt, byCarrier}
+use Rattle.dat.specs.Cells.{symbolsWhere, marksOf, cellsOf, Cell, cellAt, byCarrier}
 
 -- ---- counting symbols
 -- 1 where the test holds, else 0
@@ -83,16 +84,16 @@ count-one f g (suc n) x h l p q r =
     let a = count-step f n in
     let b = count-step g n in
     ⊎-elim
-      (λ e.
-        let i = count-same f g n (λ s k. r s (λ t. apart s x n k t e)) in
-        let u : one (f (suc n)) ≡ 0 = rw (← e, p) refl in
-        let v : one (g (suc n)) ≡ 1 = rw (← e, q) refl in
-        omega arith)
-      (λ k.
-        let i = count-one f g n x h (le-of-suc-le-suc k) p q r in
-        let u : one (g (suc n)) ≡ one (f (suc n)) = ap one (r (suc n) (λ t. apart x (suc n) n (le-of-suc-le-suc k) (sym t) refl)) in
-        omega arith)
-      (eq-or-lt-of-le l)
+    (λ e.
+    let i = count-same f g n (λ s k. r s (λ t. apart s x n k t e)) in
+    let u : one (f (suc n)) ≡ 0 = rw (← e, p) refl in
+    let v : one (g (suc n)) ≡ 1 = rw (← e, q) refl in
+    omega arith)
+    (λ k.
+    let i = count-one f g n x h (le-of-suc-le-suc k) p q r in
+    let u : one (g (suc n)) ≡ one (f (suc n)) = ap one (r (suc n) (λ t. apart x (suc n) n (le-of-suc-le-suc k) (sym t) refl)) in
+    omega arith)
+    (eq-or-lt-of-le l)
   where
     apart : (s x n : ℕ) → s ≤ n → s ≡ x → x ≡ suc n → ⊥
     apart s x n k t e = omega arith
@@ -139,8 +140,8 @@ good-value l table c k h C K =
 
 module _ (l : Layout) (table : List ℕ) (z : Sized l) (h : wrongValue l table ≡ false) (c : ℕ) (C : c < l .nc) where
   -- a carrier has as many marks as its layout has markers
-  pub marks-count : length (marks l table c) ≡ l .markers
-  unfolding marks marked
+  pub marks-count : length (marksOf l table c) ≡ l .markers
+  unfolding marksOf marked
   marks-count =
       count-values (value l table c) (l .markers) (l .nsym - 1)
       (λ k K. let g = good-value l table c k h C K in (first (value l table c k) (g .from), last (value l table c k) (l .spf) (l .nsym) (g .to) (z .spf-is)))
@@ -153,15 +154,15 @@ module _ (l : Layout) (table : List ℕ) (z : Sized l) (h : wrongValue l table �
       last v spf nsym h e = omega arith
 
   -- and as many cells as are left
-  pub cells-count : length (cells l table c) ≡ l .nsym - 1 - l .markers
-  unfolding cells marks
+  pub cells-count : length (cellsOf l table c) ≡ cells l
+  unfolding cellsOf marksOf
   cells-count =
       let m = marks-count in
       let b = count-both (marked l table c) (l .nsym - 1) in
-      rest (length (marks l table c)) (length (cells l table c)) (l .nsym - 1) (l .markers) m b
+      rest (length (marksOf l table c)) (length (cellsOf l table c)) (l .nsym) (l .markers) (cells l) m b (z .cells-are)
     where
-      rest : (a b n m : ℕ) → a ≡ m → a + b ≡ n → b ≡ n - m
-      rest a b n m e h = omega arith
+      rest : (a b n m k : ℕ) → a ≡ m → a + b ≡ n - 1 → k + m + 1 ≡ n → b ≡ k
+      rest a b n m k e h g = omega arith
 
 -- ---- all carriers
 pub byCarrier-count : (f : ℕ → List ℕ) (n m : ℕ) → ((c : ℕ) → c < n → length (f c) ≡ m) → length (byCarrier f n) ≡ n * m
@@ -176,10 +177,10 @@ byCarrier-count f (suc n) m h =
     omega arith
 
 -- the marks of an accepted table
-pub all-marks-count : (l : Layout) (table : List ℕ) → Sized l → wrongValue l table ≡ false → length (byCarrier (marks l table) (l .nc)) ≡ l .nc * l .markers
-all-marks-count l table z h = byCarrier-count (marks l table) (l .nc) (l .markers) (λ c C. marks-count l table z h c C)
+pub all-marks-count : (l : Layout) (table : List ℕ) → Sized l → wrongValue l table ≡ false → length (byCarrier (marksOf l table) (l .nc)) ≡ l .nc * l .markers
+all-marks-count l table z h = byCarrier-count (marksOf l table) (l .nc) (l .markers) (λ c C. marks-count l table z h c C)
 
 -- the bits of its cells are the payload: n of them
-pub all-cells-count : (l : Layout) (table : List ℕ) → Sized l → wrongValue l table ≡ false → length (byCarrier (cells l table) (l .nc)) * l .bps ≡ l .n
+pub all-cells-count : (l : Layout) (table : List ℕ) → Sized l → wrongValue l table ≡ false → length (byCarrier (cellsOf l table) (l .nc)) * l .bps ≡ l .n
 all-cells-count l table z h =
-    ap (λ (k : ℕ). k * l .bps) (byCarrier-count (cells l table) (l .nc) (l .nsym - 1 - l .markers) (λ c C. cells-count l table z h c C)) ∙ sym (z .n-is)
+    ap (λ (k : ℕ). k * l .bps) (byCarrier-count (cellsOf l table) (l .nc) (cells l) (λ c C. cells-count l table z h c C)) ∙ sym (z .n-is)

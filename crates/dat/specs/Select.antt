@@ -57,16 +57,18 @@ module _ (f : ℕ → Bool) (l : List ℕ) (k n : ℕ) (m m′ : List ℕ) (r : 
       let w : symbolsWhere f (k + 1) ≡ symbolsWhere f k ++ ((k + 1) ∷ []) = rw t at (where-next f k) in
       record {
         stored = s ∙ ap (λ (x : List ℕ). set x n (k + 1)) (g .stored ∙ ap (λ (x : List ℕ). symbolsWhere f k ++ x) (drop-cons l n 0 h))
-          ∙ set-at (symbolsWhere f k) (getD l n 0) (drop (suc n) l) (k + 1) n (sym (g .count))
-          ∙ sym (ap₂ (λ (x : List ℕ) (y : ℕ). x ++ drop y l) w (e ∙ add-one n) ∙ append-assoc (symbolsWhere f k) ((k + 1) ∷ []) (drop (suc n) l));
-        count = let c = g .count in let u = count-next f k in let v : one (f (k + 1)) ≡ 1 = ap one t in omega arith }
+            ∙ set-at (symbolsWhere f k) (getD l n 0) (drop (suc n) l) (k + 1) n (sym (g .count))
+            ∙ sym (ap₂ (λ (x : List ℕ) (y : ℕ). x ++ drop y l) w (e ∙ add-one n) ∙ append-assoc (symbolsWhere f k) ((k + 1) ∷ []) (drop (suc n) l));
+        count = let c = g .count in let u = count-next f k in let v : one (f (k + 1)) ≡ 1 = ap one t in omega arith;
+      }
 
   left : f (k + 1) ≡ false → m′ ≡ m → r ≡ n → Gathered f l (k + 1) r m′
   left t s e =
       let w : symbolsWhere f (k + 1) ≡ symbolsWhere f k = rw t at (where-next f k) ∙ append-nil (symbolsWhere f k) in
       record {
         stored = s ∙ g .stored ∙ sym (ap₂ (λ (x : List ℕ) (y : ℕ). x ++ drop y l) w e);
-        count = let c = g .count in let u = count-next f k in let v : one (f (k + 1)) ≡ 0 = ap one t in omega arith }
+        count = let c = g .count in let u = count-next f k in let v : one (f (k + 1)) ≡ 0 = ap one t in omega arith;
+      }
 
   -- a turn of the loop
   pub gathered-more : (take : Bool) → take ≡ f (k + 1) → (take ≡ true → n < length l) → Pushed m n (k + 1) take m′ r → Gathered f l (k + 1) r m′
@@ -85,9 +87,9 @@ pub thin-is : (v : List ℕ) (most : ℕ) → 0 < most → most ≤ length v →
 unfolding thin
 thin-is v most P h =
     ⊎-elim
-      (λ e. rw (le-leb (length v) most (le-of-eq (sym e))) (whole e))
-      (λ l. rw (lt-leb (length v) most l) refl)
-      (eq-or-lt-of-le h)
+    (λ e. rw (le-leb (length v) most (le-of-eq (sym e))) (whole e))
+    (λ l. rw (lt-leb (length v) most l) refl)
+    (eq-or-lt-of-le h)
   where
     -- as much room as symbols: the table of all of them
     whole : most ≡ length v → tabulate (λ i. getD v (i * length v / most) 0) most ≡ v

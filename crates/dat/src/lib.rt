@@ -5,9 +5,10 @@ ghost use Prim.Native.Nat.{_+_, _-_, _*_, _<_, _≤_};
 ghost use lib.Dec.{eqb};
 ghost use lib.ListN.{length, getD};
 ghost use Rattle.refusal.specs.Any.{any};
+ghost use Rattle.level.specs.Lengths.{cells};
 ghost use Rattle.level.specs.Sized.{Sized};
 ghost use Rattle.dat.specs.Tables.{badValue, wrongLength, wrongValue, badFlag, wrongFlag, badPhasor, wrongCount, wrongSize, markerFault, phasorFault, tableFault, marked};
-ghost use Rattle.dat.specs.Cells.{symbolsWhere, picked, marks, cells, thin, referenceOf, cellReferenceOf};
+ghost use Rattle.dat.specs.Cells.{symbolsWhere, picked, marksOf, cellsOf, thin, referenceOf, cellReferenceOf};
 ghost use Rattle.dat.specs.Select.{Pushed};
 ghost use Rattle.dat.specs.Accepted.{InTable, Markers, Phasors};
 use complex::Complex;
@@ -229,15 +230,15 @@ fn select(l: Layout, table: &[u16], c: usize, want: bool, out: &mut [usize])
 // The marks of carrier c, rising.
 pub fn carrier_marks(l: Layout, table: &[u16], c: usize, out: &mut [usize])
     requires { ⌜ Markers l (now table) × (c < l .nc) × (length (now out) ≡ l .markers) ⌝ }
-    ensures { λ _. ⌜ now (out .exit) ≡ marks l (now (table .entry)) c ⌝ }
+    ensures { λ _. ⌜ now (out .exit) ≡ marksOf l (now (table .entry)) c ⌝ }
 {
     select(l, table, c, true, out)
 }
 
 // The data cells of carrier c, rising.
 pub fn carrier_cells(l: Layout, table: &[u16], c: usize, out: &mut [usize])
-    requires { ⌜ Markers l (now table) × (c < l .nc) × (length (now out) ≡ l .nsym - 1 - l .markers) ⌝ }
-    ensures { λ _. ⌜ now (out .exit) ≡ cells l (now (table .entry)) c ⌝ }
+    requires { ⌜ Markers l (now table) × (c < l .nc) × (length (now out) ≡ cells l) ⌝ }
+    ensures { λ _. ⌜ now (out .exit) ≡ cellsOf l (now (table .entry)) c ⌝ }
 {
     select(l, table, c, false, out)
 }
@@ -258,8 +259,8 @@ fn spread(symbols: &[usize], out: &mut [usize])
 
 // The kept cells of carrier c, by way of room for all its cells.
 fn kept_through(l: Layout, table: &[u16], c: usize, all: &mut [usize], out: &mut [usize])
-    requires { ⌜ Markers l (now table) × (c < l .nc) × (length (now all) ≡ l .nsym - 1 - l .markers) × (0 < length (now out)) × (length (now out) ≤ length (now all)) ⌝ }
-    ensures { λ _. ⌜ now (out .exit) ≡ thin (cells l (now (table .entry)) c) (length (now (out .entry))) ⌝ }
+    requires { ⌜ Markers l (now table) × (c < l .nc) × (length (now all) ≡ cells l) × (0 < length (now out)) × (length (now out) ≤ length (now all)) ⌝ }
+    ensures { λ _. ⌜ now (out .exit) ≡ thin (cellsOf l (now (table .entry)) c) (length (now (out .entry))) ⌝ }
 {
     carrier_cells(l, table, c, all);
     spread(all, out)
@@ -267,8 +268,8 @@ fn kept_through(l: Layout, table: &[u16], c: usize, all: &mut [usize], out: &mut
 
 // The cells of carrier c that the search keeps, as many as there is room for.
 pub fn carrier_kept(l: Layout, table: &[u16], c: usize, out: &mut [usize])
-    requires { ⌜ Markers l (now table) × (c < l .nc) × (0 < length (now out)) × (length (now out) ≤ l .nsym - 1 - l .markers) ⌝ }
-    ensures { λ _. ⌜ now (out .exit) ≡ thin (cells l (now (table .entry)) c) (length (now (out .entry))) ⌝ }
+    requires { ⌜ Markers l (now table) × (c < l .nc) × (0 < length (now out)) × (length (now out) ≤ cells l) ⌝ }
+    ensures { λ _. ⌜ now (out .exit) ≡ thin (cellsOf l (now (table .entry)) c) (length (now (out .entry))) ⌝ }
 {
     let count = l.nsym - 1 - l.markers;
     let mut all = [0usize; 450];

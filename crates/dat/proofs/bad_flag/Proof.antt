@@ -29,13 +29,13 @@ mul-flag-2 : tie.Need-mul-flag-2
 mul-flag-2 c = omega (arith, flags-small _ _ _ (c .before .before .before .pre .0) .1)
 
 add-flag : tie.Need-add-flag
-add-flag c = let f = flags-small _ _ _ (c .before .before .before .pre .0) in omega (arith, f .0, f .1, c .before .before .before .pre .1, c .before .before .before .pre .0 .sized .nsym-high)
+add-flag c = let f = flags-small _ _ _ (c .before .before .before .pre .0) in omega (arith, f .0, f .1, c .before .before .before .pre .1, c .before .before .before .pre .0 .sized .nsym-most)
 
 add-flag-2 : tie.Need-add-flag-2
-add-flag-2 c = let f = flags-small _ _ _ (c .before .before .before .pre .0) in omega (arith, f .0, f .1, c .before .before .before .pre .1, c .before .before .before .pre .0 .sized .nsym-high)
+add-flag-2 c = let f = flags-small _ _ _ (c .before .before .before .pre .0) in omega (arith, f .0, f .1, c .before .before .before .pre .1, c .before .before .before .pre .0 .sized .nsym-most)
 
 mul-flag-3 : tie.Need-mul-flag-3
-mul-flag-3 c = let f = flags-small _ _ _ (c .before .before .before .pre .0) in omega (arith, f .0, f .1, c .before .before .before .pre .1, c .before .before .before .pre .0 .sized .nsym-high)
+mul-flag-3 c = let f = flags-small _ _ _ (c .before .before .before .pre .0) in omega (arith, f .0, f .1, c .before .before .before .pre .1, c .before .before .before .pre .0 .sized .nsym-most)
 
 shared-slice-read-flag : tie.Need-shared-slice-read-flag
 shared-slice-read-flag c = flag-in _ _ _ (c .before .before .before .before .pre .0) _ (c .before .before .before .before .pre .1)

@@ -22,8 +22,8 @@ module _ (l : Layout) (phasors : List Float) (k s : ℕ) (r : Complex) where
   fourth : Sized l → (l .bps ≡ 1 → ⊥) → r ≡ cpow 4 (referenceOf l phasors k s) → r ≡ cellReferenceOf l phasors k s
   unfolding cellReferenceOf
   fourth z n h =
-      let a = z .bps-low in
-      let b = z .bps-high in
+      let a = z .bps-least in
+      let b = z .bps-most in
       let e : l .bps ≡ 2 = two (l .bps) a b n in
       h ∙ sym (ap (λ (b : ℕ). cpow (2 ^ b) (referenceOf l phasors k s)) e)
     where

@@ -35,13 +35,13 @@ mul-result-2 : tie.Need-mul-result-2
 mul-result-2 c = omega (arith, flags-small _ _ _ (there _ _ _ (c .before .before .before .pre .0) (c .before .before .before .pre .1)) .1)
 
 add-result : tie.Need-add-result
-add-result c = let f = flags-small _ _ _ (there _ _ _ (c .before .before .before .pre .0) (c .before .before .before .pre .1)) in omega (arith, f .0, f .1, c .before .before .before .pre .2, c .before .before .before .pre .0 .sized .nsym-high)
+add-result c = let f = flags-small _ _ _ (there _ _ _ (c .before .before .before .pre .0) (c .before .before .before .pre .1)) in omega (arith, f .0, f .1, c .before .before .before .pre .2, c .before .before .before .pre .0 .sized .nsym-most)
 
 add-result-2 : tie.Need-add-result-2
-add-result-2 c = let f = flags-small _ _ _ (there _ _ _ (c .before .before .before .pre .0) (c .before .before .before .pre .1)) in omega (arith, f .0, f .1, c .before .before .before .pre .2, c .before .before .before .pre .0 .sized .nsym-high)
+add-result-2 c = let f = flags-small _ _ _ (there _ _ _ (c .before .before .before .pre .0) (c .before .before .before .pre .1)) in omega (arith, f .0, f .1, c .before .before .before .pre .2, c .before .before .before .pre .0 .sized .nsym-most)
 
 mul-result-3 : tie.Need-mul-result-3
-mul-result-3 c = let f = flags-small _ _ _ (there _ _ _ (c .before .before .before .pre .0) (c .before .before .before .pre .1)) in omega (arith, f .0, f .1, c .before .before .before .pre .2, c .before .before .before .pre .0 .sized .nsym-high)
+mul-result-3 c = let f = flags-small _ _ _ (there _ _ _ (c .before .before .before .pre .0) (c .before .before .before .pre .1)) in omega (arith, f .0, f .1, c .before .before .before .pre .2, c .before .before .before .pre .0 .sized .nsym-most)
 
 shared-slice-read-result : tie.Need-shared-slice-read-result
 shared-slice-read-result c = flag-in _ _ _ (there _ _ _ (c .before .before .before .before .pre .0) (c .before .before .before .before .pre .1)) _ (omega arith)

@@ -15,19 +15,19 @@ use Rattle.dat.proofs.reference.Statement.{statement}
 use Rattle.dat.proofs.reference.Tie as tie
 
 mul-from : tie.Need-mul-from
-mul-from c = omega (arith, rows-small _ _ _ (c .before .before .pre .0 .sized) (le-of-lt (c .before .before .pre .1)) (c .before .before .pre .0 .sized .nsym-high))
+mul-from c = omega (arith, rows-small _ _ _ (c .before .before .pre .0 .sized) (le-of-lt (c .before .before .pre .1)) (c .before .before .pre .0 .sized .nsym-most))
 
 sub-get : tie.Need-sub-get
 sub-get c = search needs
 
 add-get : tie.Need-add-get
-add-get c = omega (arith, rows-small _ _ _ (c .before .before .pre .0 .sized) (le-of-lt (c .before .before .pre .1)) (c .before .before .pre .0 .sized .nsym-high), c .before .before .pre .3, c .before .before .pre .0 .sized .nsym-high)
+add-get c = omega (arith, rows-small _ _ _ (c .before .before .pre .0 .sized) (le-of-lt (c .before .before .pre .1)) (c .before .before .pre .0 .sized .nsym-most), c .before .before .pre .3, c .before .before .pre .0 .sized .nsym-most)
 
 get-requires : tie.Need-get-requires
 get-requires c κs = phasor-in _ _ _ _ (c .before .before .pre .0) (c .before .before .pre .1) (lt-of-le-of-lt (sub-le _ 1) (c .before .before .pre .3))
 
 add-get-2 : tie.Need-add-get-2
-add-get-2 c = omega (arith, rows-small _ _ _ (c .before .before .before .pre .0 .sized) (le-of-lt (c .before .before .before .pre .1)) (c .before .before .before .pre .0 .sized .nsym-high), c .before .before .before .pre .3, c .before .before .before .pre .0 .sized .nsym-high)
+add-get-2 c = omega (arith, rows-small _ _ _ (c .before .before .before .pre .0 .sized) (le-of-lt (c .before .before .before .pre .1)) (c .before .before .before .pre .0 .sized .nsym-most), c .before .before .before .pre .3, c .before .before .before .pre .0 .sized .nsym-most)
 
 get-requires-2 : tie.Need-get-requires-2
 get-requires-2 c κs = phasor-in _ _ _ _ (c .before .before .before .pre .0) (c .before .before .before .pre .1) (c .before .before .before .pre .3)

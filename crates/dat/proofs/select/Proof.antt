@@ -20,7 +20,7 @@ abbrev μ-loop : tie.MeasureT-loop
 μ-loop l table c want out₀ last n₀ k₀ out n k = last - k
 
 sub-last : tie.Need-sub-last Inv-loop μ-loop
-sub-last c = omega (arith, c .before .before .before .pre .0 .sized .nsym-low)
+sub-last c = omega (arith, c .before .before .before .pre .0 .sized .nsym-least)
 
 loop-holds : tie.Need-loop-holds Inv-loop μ-loop
 loop-holds c = (omega arith, refl, gathered-none _ _)
@@ -29,7 +29,7 @@ add-is-mark : tie.Need-add-is-mark Inv-loop μ-loop
 add-is-mark c = omega arith
 
 is-mark-requires : tie.Need-is-mark-requires Inv-loop μ-loop
-is-mark-requires c κs = (c .before .before .before .before .before .pre .0, c .before .before .before .before .before .pre .1, omega (arith, c .loop-test .taken, c .before .before .before .before .before .pre .0 .sized .nsym-low))
+is-mark-requires c κs = (c .before .before .before .before .before .pre .0, c .before .before .before .before .before .pre .1, omega (arith, c .loop-test .taken, c .before .before .before .before .before .pre .0 .sized .nsym-least))
 
 wanted-requires : tie.Need-wanted-requires Inv-loop μ-loop
 wanted-requires c κs = search needs
@@ -38,7 +38,7 @@ add-push : tie.Need-add-push Inv-loop μ-loop
 add-push c = omega arith
 
 push-requires : tie.Need-push-requires Inv-loop μ-loop
-push-requires c κs = 
+push-requires c κs =
     let l = c .before .before .before .before .loop in
     let s = c .before .before .before .before .before .before .before .before in
     let r = room (λ s′. picked (s .args .want) (marked (s .args .l) (s .args .table .now) (s .args .c) s′)) (s .args .out .now) (l .k) (s .args .l .nsym - 1) (l .n) (l .inv .2 .count) (s .pre .2) (c .before .before .before .loop-test .taken) in
@@ -51,20 +51,22 @@ loop-less : tie.Need-loop-less Inv-loop μ-loop
 loop-less c = omega arith
 
 loop-again : tie.Need-loop-again Inv-loop μ-loop
-loop-again c = 
+loop-again c =
     let l = c .before .before .before .before .before .before .before .loop in
     let s = c .before .before .before .before .before .before .before .before .before .before .before in
     let f : ℕ → Bool = λ s′. picked (s .args .want) (marked (s .args .l) (s .args .table .now) (s .args .c) s′) in
     let r = room f (s .args .out .now) (l .k) (s .args .l .nsym - 1) (l .n) (l .inv .2 .count) (s .pre .2) (c .before .before .before .before .before .before .loop-test .taken) in
-    let t = c .before .before .before .before .wanted .ensures ∙ ap (picked (s .args .want)) (c .before .before .before .before .before .is-mark .ensures) in
-    (omega arith, c .before .before .push .kept .0 ∙ l .inv .1,
-      gathered-more f (s .args .out .now) (l .k) (l .n) (l .out) _ _ (l .inv .2) _ t (λ u. r .1 (sym t ∙ u)) (c .before .before .push .ensures))
+    let t = c .before .before .before .before .wanted .ensures ∙ ap (picked (s .args .want)) (c .before .before .before .before .before .is-mark .ensures) in (
+      omega arith,
+      c .before .before .push .kept .0 ∙ l .inv .1,
+      gathered-more f (s .args .out .now) (l .k) (l .n) (l .out) _ _ (l .inv .2) _ t (λ u. r .1 (sym t ∙ u)) (c .before .before .push .ensures),
+    )
 
 same-length : tie.Need-same-length Inv-loop μ-loop
 same-length c = c .before .loop .inv .1
 
 returns : tie.Need-returns Inv-loop μ-loop
-returns c = 
+returns c =
     let s = c .before .before .before .before .before in
     let f : ℕ → Bool = λ s′. picked (s .args .want) (marked (s .args .l) (s .args .table .now) (s .args .c) s′) in
     let l = c .before .loop in

@@ -46,15 +46,17 @@ loop-less : tie.Need-loop-less Inv-loop μ-loop
 loop-less c = omega arith
 
 loop-again : tie.Need-loop-again Inv-loop μ-loop
-loop-again c = 
-    (omega arith, simp length-set (c .before .before .loop .inv .1),
-      filled-step _ _ (c .before .before .before .args .out .now) _ 0 (c .before .before .loop .inv .2) (c .before .loop-test .taken))
+loop-again c = (
+  omega arith,
+  simp length-set (c .before .before .loop .inv .1),
+  filled-step _ _ (c .before .before .before .args .out .now) _ 0 (c .before .before .loop .inv .2) (c .before .loop-test .taken),
+)
 
 same-length : tie.Need-same-length Inv-loop μ-loop
 same-length c = c .before .loop .inv .1
 
 returns : tie.Need-returns Inv-loop μ-loop
-returns c = 
+returns c =
     let s = c .before .before in
     let v = s .args .symbols .now in
     let out = s .args .out .now in
