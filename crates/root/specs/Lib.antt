@@ -1,0 +1,4 @@
+pub mod Root
+pub mod Unit
+pub mod Squares
+pub mod RootUnits
