@@ -3,8 +3,16 @@ ghost use mathlib.Core.Path.{_≡_};
 ghost use Prim.Native.Nat.{_+_, _≤_, _<_, _^_};
 ghost use lib.ListN.{length};
 ghost use Rattle.constellation.specs.Alphabet.{pointOf};
-ghost use Rattle.constellation.specs.Label.{labelAt};
+ghost use Rattle.constellation.specs.Label.{labelAt, labelBit};
 use complex::Complex;
+
+// The number of points.
+pub fn size(bps: usize) -> usize
+    requires { ⌜ (1 ≤ bps) × (bps ≤ 2) ⌝ }
+    ensures { λ r. ⌜ r ≡ 2 ^ bps ⌝ }
+{
+    if bps == 1 { 2 } else { 4 }
+}
 
 // The point of a label.
 pub fn point(bps: usize, label: usize) -> Complex
@@ -37,4 +45,12 @@ pub fn take_bits(payload: &[u8], at: usize, bps: usize) -> usize
     }
     let low = payload[at + 1] as usize;
     2 * high + low
+}
+
+// Bit b of a label, bit 0 the high one.
+pub fn label_bit(bps: usize, b: usize, label: usize) -> usize
+    requires { ⌜ (b < bps) × (bps ≤ 64) ⌝ }
+    ensures { λ r. ⌜ r ≡ labelBit bps b label ⌝ }
+{
+    (label >> (bps - 1 - b)) % 2
 }
