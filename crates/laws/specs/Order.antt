@@ -1,16 +1,34 @@
--- The IEEE order `lt`: it is asymmetric and transitive, and total on the floats that are no NaN, infinities included. Assumes nothing.
-use mathlib.Core.Path.{_≡_, refl, sym, _∙_, ap, subst}
-use mathlib.Core.Bool.{Bool, true, false, not, _&&_}
+-- The IEEE order: `lt` is asymmetric and transitive, and total on the floats that are no NaN, infinities included; `le x y` is that y is not below x. Assumes nothing.
+use mathlib.Core.Path.{_≡_, refl, sym, _∙_, ap}
+use mathlib.Core.Logic.{⊎-elim}
+use mathlib.Core.Bool.{Bool, true, false, not, _&&_, _||_, or-true, and-false, true≢false}
 use Prim.Native.Nat.{ℕ, zero, suc, _+_, _*_, _≤_, _<_}
-use native.Mathlib.Nat.{mul-right-comm, mul-le-mul-right, mul-lt-mul-of-pos-right, mul-pos, lt-of-mul-lt-mul-right, zero-mul, lt-of-le-of-lt, lt-of-lt-of-le}
+use native.Mathlib.Nat.{le-of-lt, eq-or-lt-of-le, mul-right-comm, mul-le-mul-right, mul-lt-mul-of-pos-right, mul-pos, lt-of-mul-lt-mul-right, zero-mul, lt-of-le-of-lt, lt-of-lt-of-le}
 use native.Mathlib.Omega.{arith}
-use lib.Dec.{T, ltb}
-use lib.IntN.{ℤ}
-use lib.Ieee.{Float, nan, inf, fin, lt, up, down, below, isNan}
+use lib.Dec.{T, ltb, eqb}
+use lib.Ieee.{Float, nan, inf, fin, lt, le, ne, up, down, below, level, isNan}
+use lib.Ieee.Compare.{nan-differs}
 use lib.Ieee.Fits.{down-pos}
 use lib.Ieee.Positive.{first-pos}
-use borrow.Author.Tests.{ltb-true, ltb-false, lt-ltb, le-ltb}
+use borrow.Author.Tests.{ltb-true, ltb-false, lt-ltb, le-ltb, eq-eqb, ne-eqb, not-true, not-false}
 
+-- ---- tests
+pub clash {ℓ} : {X : Type ℓ} → false ≡ true → X
+clash e = absurd (true≢false (sym e))
+
+pub or-elim {ℓ} : {A : Type ℓ} (x y : Bool) → (T x → A) → (T y → A) → T (x || y) → A
+or-elim true y h k t = h tt
+or-elim false y h k t = k t
+
+pub or-left : (x y : Bool) → T x → T (x || y)
+or-left true y t = tt
+or-left false y t = absurd t
+
+pub or-right : (x y : Bool) → T y → T (x || y)
+or-right true y t = tt
+or-right false y t = t
+
+-- ---- magnitudes and signs
 -- x / a ≤ y / b and y / b < z / c give x / a < z / c
 cross-le-lt : (x y z a b c : ℕ) → 0 < a → x * b ≤ y * a → y * c < z * b → x * c < z * a
 cross-le-lt x y z a b c ha p q =
@@ -45,7 +63,7 @@ below-step false false true x y z a b c ha hb hc p q = q
 below-step true false false x y z a b c ha hb hc p q =
     lt-ltb 0 (x * c + z * a)
     (omega (arith, mul-pos (first-pos z b (omega (arith, ltb-true (y * c) (z * b) q))) ha))
-below-step true false true x y z a b c ha hb hc p q = absurd (let e : _≡_ {A = ℕ} 0 1 = cc in omega arith)
+below-step true false true x y z a b c ha hb hc p q = clash q
 below-step false true false x y z a b c ha hb hc p q =
     let x0 : x ≡ 0 = zero-factor x b hb (omega (arith, ltb-false 0 (y * a + x * b) p)) in
     let y0 : y ≡ 0 = zero-factor y a ha (omega (arith, ltb-false 0 (y * a + x * b) p)) in
@@ -59,9 +77,6 @@ below-step false true true x y z a b c ha hb hc p q =
 below-step true true false x y z a b c ha hb hc p q = lt-ltb 0 (x * c + z * a) (below-opposite x y z a b c ha hc (ltb-true 0 (y * c + z * b) q) (ltb-false _ _ p))
 below-step true true true x y z a b c ha hb hc p q = lt-ltb (z * a) (x * c) (cross-lt-le z y x c b a ha (ltb-true _ _ q) (ltb-false _ _ p))
 
-pub clash {ℓ} : {X : Type ℓ} → false ≡ true → X
-clash e = absurd (let z : _≡_ {A = ℕ} 0 1 = cc in omega arith)
-
 -- the steps where x is an infinity: y is not below it, so x is -∞
 inf-step : (s t u : Bool) → t && not s ≡ false → t && not u ≡ true → s && not u ≡ true
 inf-step false false u p q = q
@@ -74,10 +89,6 @@ inf-below true t p q = refl
 inf-below false true p q = clash (sym p)
 inf-below false false p q = q
 
-not-false : (s : Bool) → not s ≡ false → s ≡ true
-not-false true p = refl
-not-false false p = clash (sym p)
-
 not-false-and : (s u : Bool) → not s ≡ false → not u ≡ true → s && not u ≡ true
 not-false-and true u p q = q
 not-false-and false u p q = clash (sym p)
@@ -86,6 +97,8 @@ false-and : (t u : Bool) {v : Bool} → t ≡ false → t && not u ≡ true → 
 false-and false u p q = clash q
 false-and true u p q = clash (sym p)
 
+-- ---- the order
+-- total: y is not below x, and is below z, so x is below z
 pub lt-step : (x y z : Float) → isNan x ≡ false → lt y x ≡ false → lt y z ≡ true → lt x z ≡ true
 unfolding lt isNan
 lt-step nan y z n p q = clash (sym n)
@@ -116,10 +129,6 @@ and-asym true false e = refl
 and-asym true true e = refl
 and-asym false t e = clash e
 
-of-not-true : (t : Bool) → not t ≡ true → t ≡ false
-of-not-true true e = clash e
-of-not-true false e = refl
-
 not-of-true : (t : Bool) → t ≡ true → not t ≡ false
 not-of-true true e = refl
 not-of-true false e = clash e
@@ -131,7 +140,7 @@ lt-asym (inf s) nan e = clash e
 lt-asym (inf s) (inf t) e = and-asym s t e
 lt-asym (inf s) (fin t n d) e = not-of-true s e
 lt-asym (fin s m e') nan e = clash e
-lt-asym (fin s m e') (inf t) e = of-not-true t e
+lt-asym (fin s m e') (inf t) e = not-true t e
 lt-asym (fin s m e') (fin t n d) e = below-asym s t _ _ e
 
 -- a number below another is no NaN
@@ -143,3 +152,85 @@ lt-number (fin s m e') y e = refl
 
 pub lt-trans : (x y z : Float) → lt x y ≡ true → lt y z ≡ true → lt x z ≡ true
 lt-trans x y z p q = lt-step x y z (lt-number x y p) (lt-asym x y p) q
+
+-- ---- a NaN is the one float that differs from itself
+pub number-by : (x : Float) → ne x x ≡ false → T (not (isNan x))
+unfolding isNan
+number-by nan h = clash (sym (sym nan-differs ∙ h))
+number-by (inf s) h = tt
+number-by (fin s m e) h = tt
+
+-- ---- `le` on the floats that are no NaN
+not-equal : (a b : ℕ) → a < b → a ≡ b → ⊥
+not-equal a b h e = omega arith
+
+ordered : (a b : ℕ) (e : Bool) → (a ≡ b → e ≡ true) → (b < a → e ≡ false) → ltb a b || e ≡ not (ltb b a)
+ordered a b e same greater = go (ltb b a) refl
+  where
+    go : (t : Bool) → ltb b a ≡ t → ltb a b || e ≡ not t
+    go true h = rw (le-ltb a b (le-of-lt (ltb-true b a h))) (greater (ltb-true b a h))
+    go false h = ⊎-elim (λ g. rw (same g) (or-true (ltb a b))) (λ l. rw (lt-ltb a b l)) (eq-or-lt-of-le (ltb-false b a h))
+
+level-below : (s t : Bool) (a b : ℕ) → below s a t b || level s a t b ≡ not (below t b s a)
+level-below false false a b = ordered a b (eqb a b && true) (λ g. rw (eq-eqb a b g)) (λ l. rw (ne-eqb a b (λ g. not-equal b a l (sym g))))
+level-below false true zero zero = refl
+level-below false true zero (suc b) = rw (ne-eqb 0 (suc b) (λ g. not-equal 0 (suc b) (omega arith) g), lt-ltb 0 (suc b + 0) (omega arith))
+level-below false true (suc a) b = rw (ne-eqb (suc a) 0 (λ g. not-equal 0 (suc a) (omega arith) (sym g)), lt-ltb 0 (b + suc a) (omega arith)) (and-false (eqb (suc a) b))
+level-below true false zero zero = refl
+level-below true false zero (suc b) = rw (lt-ltb 0 (0 + suc b) (omega arith))
+level-below true false (suc a) b = rw (lt-ltb 0 (suc a + b) (omega arith))
+level-below true true a b = ordered b a (eqb a b && true) (λ g. rw (eq-eqb a b (sym g))) (λ l. rw (ne-eqb a b (not-equal a b l)))
+
+pub le-is-not-lt : (x y : Float) → isNan x ≡ false → isNan y ≡ false → le x y ≡ not (lt y x)
+unfolding le isNan
+le-is-not-lt nan y n m = clash (sym n)
+le-is-not-lt (inf s) nan n m = clash (sym m)
+le-is-not-lt (inf true) (inf true) n m = refl
+le-is-not-lt (inf true) (inf false) n m = refl
+le-is-not-lt (inf false) (inf true) n m = refl
+le-is-not-lt (inf false) (inf false) n m = refl
+le-is-not-lt (inf true) (fin t k d) n m = refl
+le-is-not-lt (inf false) (fin t k d) n m = refl
+le-is-not-lt (fin s j e) nan n m = clash (sym m)
+le-is-not-lt (fin s j e) (inf true) n m = refl
+le-is-not-lt (fin s j e) (inf false) n m = refl
+le-is-not-lt (fin s j e) (fin t k d) n m = level-below s t _ _
+
+pub le-number : (x y : Float) → le x y ≡ true → (isNan x ≡ false) × (isNan y ≡ false)
+unfolding le isNan
+le-number nan y h = clash h
+le-number (inf s) nan h = clash h
+le-number (inf s) (inf t) h = (refl, refl)
+le-number (inf s) (fin t k d) h = (refl, refl)
+le-number (fin s j e) nan h = clash h
+le-number (fin s j e) (inf t) h = (refl, refl)
+le-number (fin s j e) (fin t k d) h = (refl, refl)
+
+pub lt-le : (x y : Float) → lt x y ≡ true → le x y ≡ true
+unfolding le
+lt-le x y h = rw h
+
+pub le-not-lt : (x y : Float) → le x y ≡ true → lt y x ≡ false
+le-not-lt x y h =
+    let n = le-number x y h in
+    not-true (lt y x) (sym (le-is-not-lt x y (n .0) (n .1)) ∙ h)
+
+pub not-lt-le : (x y : Float) → isNan x ≡ false → isNan y ≡ false → lt y x ≡ false → le x y ≡ true
+not-lt-le x y n m h = le-is-not-lt x y n m ∙ ap not h
+
+pub le-lt-trans : (x y z : Float) → le x y ≡ true → lt y z ≡ true → lt x z ≡ true
+le-lt-trans x y z p q = lt-step x y z (le-number x y p .0) (le-not-lt x y p) q
+
+pub le-trans : (x y z : Float) → le x y ≡ true → le y z ≡ true → le x z ≡ true
+le-trans x y z p q = go (lt z x) refl
+  where
+    go : (t : Bool) → lt z x ≡ t → le x z ≡ true
+    go true h = clash (sym (le-not-lt x y p) ∙ lt-step y z x (le-number y z q .0) (le-not-lt y z q) h)
+    go false h = not-lt-le x z (le-number x y p .0) (le-number y z q .1) h
+
+pub lt-le-trans : (x y z : Float) → lt x y ≡ true → le y z ≡ true → lt x z ≡ true
+lt-le-trans x y z p q = go (lt x z) refl
+  where
+    go : (t : Bool) → lt x z ≡ t → lt x z ≡ true
+    go true h = h
+    go false h = clash (sym (le-not-lt y z q) ∙ lt-step z x y (le-number y z q .1) h p)

@@ -1,0 +1,5 @@
+pub mod Tables
+pub mod Cells
+pub mod Counts
+pub mod Accepted
+pub mod Select

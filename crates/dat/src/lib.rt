@@ -1,0 +1,299 @@
+// The tables that a host lends: marker values and flags, and phasors (01, "Marks and cells"). Conditions 3 to 7, marks, cells and references.
+ghost use mathlib.Core.Path.{_≡_};
+ghost use mathlib.Core.Bool.{true, false};
+ghost use Prim.Native.Nat.{_+_, _-_, _*_, _<_, _≤_};
+ghost use lib.Dec.{eqb};
+ghost use lib.ListN.{length, getD};
+ghost use Rattle.refusal.specs.Any.{any};
+ghost use Rattle.level.specs.Lengths.{cells};
+ghost use Rattle.level.specs.Sized.{Sized};
+ghost use Rattle.dat.specs.Tables.{badValue, wrongLength, wrongValue, badFlag, wrongFlag, badPhasor, wrongCount, wrongSize, markerFault, phasorFault, tableFault, marked};
+ghost use Rattle.dat.specs.Cells.{symbolsWhere, picked, marksOf, cellsOf, thin, referenceOf, cellReferenceOf};
+ghost use Rattle.dat.specs.Select.{Pushed};
+ghost use Rattle.dat.specs.Accepted.{InTable, Markers, Phasors};
+use complex::Complex;
+use level::Layout;
+use refusal::Fault;
+use refusal::Refusal;
+
+// Whether one of the `count` values from `from` on is s.
+fn has_value(table: &[u16], from: usize, count: usize, s: usize) -> bool
+    requires { ⌜ from + count ≤ length (now table) ⌝ }
+    ensures { λ r. ⌜ r ≡ any (λ k. eqb (getD (now (table .entry)) (from + k) 0) s) count ⌝ }
+{
+    let mut k = 0;
+    while k < count {
+        if table[from + k] as usize == s {
+            return true;
+        }
+        k += 1;
+    }
+    false
+}
+
+fn bad_value(l: Layout, table: &[u16], c: usize, k: usize) -> bool
+    requires { ⌜ InTable l (now table) c × (k < l .markers) ⌝ }
+    ensures { λ r. ⌜ r ≡ badValue l (now (table .entry)) c k ⌝ }
+{
+    let from = c * l.markers;
+    let v = table[from + k] as usize;
+    if v < 5 {
+        return true;
+    }
+    if l.spf - 4 < v {
+        return true;
+    }
+    has_value(table, from, k, v)
+}
+
+fn bad_values(l: Layout, table: &[u16], c: usize) -> bool
+    requires { ⌜ InTable l (now table) c ⌝ }
+    ensures { λ r. ⌜ r ≡ any (badValue l (now (table .entry)) c) (l .markers) ⌝ }
+{
+    let mut k = 0;
+    while k < l.markers {
+        if bad_value(l, table, c, k) {
+            return true;
+        }
+        k += 1;
+    }
+    false
+}
+
+fn wrong_value(l: Layout, table: &[u16]) -> bool
+    requires { ⌜ Sized l × (wrongLength l (now table) ≡ false) ⌝ }
+    ensures { λ r. ⌜ r ≡ wrongValue l (now (table .entry)) ⌝ }
+{
+    let mut c = 0;
+    while c < l.nc {
+        if bad_values(l, table, c) {
+            return true;
+        }
+        c += 1;
+    }
+    false
+}
+
+fn bad_flag(l: Layout, table: &[u16], c: usize, j: usize) -> bool
+    requires { ⌜ InTable l (now table) c × (j < l .nsym) ⌝ }
+    ensures { λ r. ⌜ r ≡ badFlag l (now (table .entry)) c j ⌝ }
+{
+    let flag = table[l.nc * l.markers + (c * l.nsym + j)];
+    if has_value(table, c * l.markers, l.markers, j + 2) {
+        return flag != 1;
+    }
+    flag != 0
+}
+
+fn bad_flags(l: Layout, table: &[u16], c: usize) -> bool
+    requires { ⌜ InTable l (now table) c ⌝ }
+    ensures { λ r. ⌜ r ≡ any (badFlag l (now (table .entry)) c) (l .nsym) ⌝ }
+{
+    let mut j = 0;
+    while j < l.nsym {
+        if bad_flag(l, table, c, j) {
+            return true;
+        }
+        j += 1;
+    }
+    false
+}
+
+fn wrong_flag(l: Layout, table: &[u16]) -> bool
+    requires { ⌜ Sized l × (wrongLength l (now table) ≡ false) ⌝ }
+    ensures { λ r. ⌜ r ≡ wrongFlag l (now (table .entry)) ⌝ }
+{
+    let mut c = 0;
+    while c < l.nc {
+        if bad_flags(l, table, c) {
+            return true;
+        }
+        c += 1;
+    }
+    false
+}
+
+fn bad_phasor(z: Complex) -> bool
+    ensures { λ r. ⌜ r ≡ badPhasor z ⌝ }
+{
+    if !laws::is_finite(z.re) {
+        return true;
+    }
+    if !laws::is_finite(z.im) {
+        return true;
+    }
+    !laws::in_range(complex::norm_sqr(z), 0.99, 1.01)
+}
+
+fn wrong_size(l: Layout, phasors: &[f64]) -> bool
+    requires { ⌜ Sized l × (wrongCount l (now phasors) ≡ false) ⌝ }
+    ensures { λ r. ⌜ r ≡ wrongSize l (now (phasors .entry)) ⌝ }
+{
+    let count = l.nc * l.nsym;
+    let mut i = 0;
+    while i < count {
+        if bad_phasor(complex::get(phasors, i)) {
+            return true;
+        }
+        i += 1;
+    }
+    false
+}
+
+// Conditions 3 to 5, first fault first.
+pub fn marker_fault(l: Layout, table: &[u16]) -> Fault
+    requires { ⌜ Sized l ⌝ }
+    ensures { λ r. ⌜ r ≡ markerFault l (now (table .entry)) ⌝ }
+{
+    if table.len() != l.nc * (l.markers + l.nsym) {
+        return Fault::Met(Refusal::MarkerLength);
+    }
+    if wrong_value(l, table) {
+        return Fault::Met(Refusal::MarkerValue);
+    }
+    if wrong_flag(l, table) {
+        return Fault::Met(Refusal::MarkerFlag);
+    }
+    Fault::Clear
+}
+
+// Conditions 6 and 7.
+pub fn phasor_fault(l: Layout, phasors: &[f64]) -> Fault
+    requires { ⌜ Sized l ⌝ }
+    ensures { λ r. ⌜ r ≡ phasorFault l (now (phasors .entry)) ⌝ }
+{
+    if phasors.len() != 2 * (l.nc * l.nsym) {
+        return Fault::Met(Refusal::PhasorCount);
+    }
+    if wrong_size(l, phasors) {
+        return Fault::Met(Refusal::PhasorSize);
+    }
+    Fault::Clear
+}
+
+// Conditions 3 to 7.
+pub fn table_fault(l: Layout, table: &[u16], phasors: &[f64]) -> Fault
+    requires { ⌜ Sized l ⌝ }
+    ensures { λ r. ⌜ r ≡ tableFault l (now (table .entry)) (now (phasors .entry)) ⌝ }
+{
+    let fault = marker_fault(l, table);
+    match fault {
+        Fault::Met(_) => fault,
+        Fault::Clear => phasor_fault(l, phasors),
+    }
+}
+
+// Whether symbol s of carrier c is marked: what its flag says.
+pub fn is_mark(l: Layout, table: &[u16], c: usize, s: usize) -> bool
+    requires { ⌜ Markers l (now table) × (c < l .nc) × (s < l .nsym) ⌝ }
+    ensures { λ r. ⌜ r ≡ marked l (now (table .entry)) c s ⌝ }
+{
+    if s < 2 {
+        return false;
+    }
+    table[l.nc * l.markers + (c * l.nsym + (s - 2))] != 0
+}
+
+fn wanted(want: bool, mark: bool) -> bool
+    ensures { λ r. ⌜ r ≡ picked want mark ⌝ }
+{
+    if want { mark } else { !mark }
+}
+
+// Stores s at n where it is taken; answers the count of those stored.
+fn push(out: &mut [usize], n: usize, s: usize, take: bool) -> usize
+    requires { ⌜ (take ≡ true → n < length (now out)) × (n ≤ length (now out)) ⌝ }
+    ensures { λ r. ⌜ Pushed (now (out .entry)) n s take (now (out .exit)) r ⌝ }
+{
+    if take {
+        out[n] = s;
+        return n + 1;
+    }
+    n
+}
+
+// The symbols of carrier c that are marked, or those that aren't, rising.
+fn select(l: Layout, table: &[u16], c: usize, want: bool, out: &mut [usize])
+    requires { ⌜ Markers l (now table) × (c < l .nc) × (length (now out) ≡ length (symbolsWhere (λ s. picked want (marked l (now table) c s)) (l .nsym - 1))) ⌝ }
+    ensures { λ _. ⌜ now (out .exit) ≡ symbolsWhere (λ s. picked want (marked l (now (table .entry)) c s)) (l .nsym - 1) ⌝ }
+{
+    let last = l.nsym - 1;
+    let mut n = 0;
+    let mut k = 0;
+    while k < last {
+        let take = wanted(want, is_mark(l, table, c, k + 1));
+        n = push(out, n, k + 1, take);
+        k += 1;
+    }
+}
+
+// The marks of carrier c, rising.
+pub fn carrier_marks(l: Layout, table: &[u16], c: usize, out: &mut [usize])
+    requires { ⌜ Markers l (now table) × (c < l .nc) × (length (now out) ≡ l .markers) ⌝ }
+    ensures { λ _. ⌜ now (out .exit) ≡ marksOf l (now (table .entry)) c ⌝ }
+{
+    select(l, table, c, true, out)
+}
+
+// The data cells of carrier c, rising.
+pub fn carrier_cells(l: Layout, table: &[u16], c: usize, out: &mut [usize])
+    requires { ⌜ Markers l (now table) × (c < l .nc) × (length (now out) ≡ cells l) ⌝ }
+    ensures { λ _. ⌜ now (out .exit) ≡ cellsOf l (now (table .entry)) c ⌝ }
+{
+    select(l, table, c, false, out)
+}
+
+// As many of the symbols as there is room for, evenly spread: `thin` of dsp.rs.
+fn spread(symbols: &[usize], out: &mut [usize])
+    requires { ⌜ (0 < length (now out)) × (length (now out) ≤ length (now symbols)) × (length (now symbols) ≤ 450) ⌝ }
+    ensures { λ _. ⌜ now (out .exit) ≡ thin (now (symbols .entry)) (length (now (out .entry))) ⌝ }
+{
+    let most = out.len();
+    let len = symbols.len();
+    let mut i = 0;
+    while i < most {
+        out[i] = symbols[i * len / most];
+        i += 1;
+    }
+}
+
+// The kept cells of carrier c, by way of room for all its cells.
+fn kept_through(l: Layout, table: &[u16], c: usize, all: &mut [usize], out: &mut [usize])
+    requires { ⌜ Markers l (now table) × (c < l .nc) × (length (now all) ≡ cells l) × (0 < length (now out)) × (length (now out) ≤ length (now all)) ⌝ }
+    ensures { λ _. ⌜ now (out .exit) ≡ thin (cellsOf l (now (table .entry)) c) (length (now (out .entry))) ⌝ }
+{
+    carrier_cells(l, table, c, all);
+    spread(all, out)
+}
+
+// The cells of carrier c that the search keeps, as many as there is room for.
+pub fn carrier_kept(l: Layout, table: &[u16], c: usize, out: &mut [usize])
+    requires { ⌜ Markers l (now table) × (c < l .nc) × (0 < length (now out)) × (length (now out) ≤ cells l) ⌝ }
+    ensures { λ _. ⌜ now (out .exit) ≡ thin (cellsOf l (now (table .entry)) c) (length (now (out .entry))) ⌝ }
+{
+    let count = l.nsym - 1 - l.markers;
+    let mut all = [0usize; 450];
+    kept_through(l, table, c, &mut all[0..count], out)
+}
+
+// The reference of symbol s of carrier c: its phasor times the conjugate of the one before.
+pub fn reference(l: Layout, phasors: &[f64], c: usize, s: usize) -> Complex
+    requires { ⌜ Phasors l (now phasors) × (c < l .nc) × (1 ≤ s) × (s < l .nsym) ⌝ }
+    ensures { λ r. ⌜ r ≡ referenceOf l (now (phasors .entry)) c s ⌝ }
+{
+    let from = c * l.nsym;
+    let before = complex::get(phasors, from + (s - 1));
+    complex::mul(complex::get(phasors, from + s), complex::conj(before))
+}
+
+// The reference of a kept cell: the power 2 for one bit a symbol, 4 for two.
+pub fn cell_reference(l: Layout, phasors: &[f64], c: usize, s: usize) -> Complex
+    requires { ⌜ Phasors l (now phasors) × (c < l .nc) × (1 ≤ s) × (s < l .nsym) ⌝ }
+    ensures { λ r. ⌜ r ≡ cellReferenceOf l (now (phasors .entry)) c s ⌝ }
+{
+    let q = reference(l, phasors, c, s);
+    if l.bps == 1 {
+        return complex::powi(q, 2);
+    }
+    complex::powi(q, 4)
+}

@@ -1,0 +1,19 @@
+-- `root::norm` meets its contract: the root of the squared norm. Assumes nothing.
+use mathlib.Core.Path.{ap, _∙_}
+use borrow.Author.Needs.{needs}
+use Rattle.root.specs.Root.{sqrtOf, normOf}
+use Rattle.root.proofs.norm.Statement.{statement}
+use Rattle.root.proofs.norm.Tie as tie
+
+norm-sqr-requires : tie.Need-norm-sqr-requires
+norm-sqr-requires c κs = search needs
+
+sqrt-requires : tie.Need-sqrt-requires
+sqrt-requires c κs = search needs
+
+returns : tie.Need-returns
+unfolding normOf
+returns c = c .sqrt .ensures ∙ ap sqrtOf (c .before .norm-sqr .ensures)
+
+pub norm-spec : {M : Type 1} → statement M
+norm-spec = tie.close (tie.spec norm-sqr-requires sqrt-requires returns)
