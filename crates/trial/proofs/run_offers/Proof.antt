@@ -3,7 +3,7 @@ use mathlib.Core.Path.{_≡_, refl, sym, _∙_}
 use Prim.Native.Nat.{_+_, _*_, _-_, _≤_, _<_, _^_}
 use lib.ListN.{length, getD}
 use borrow.Author.Tests.{not-true, not-false, leb-true, leb-false}
-use Rattle.trial.specs.OffersLaws.{Running, running-none, running-all, running-no-position, running-no-metric, running-more, kept-room, kept-offered}
+use Rattle.trial.specs.OffersLaws.{Running, running-none, running-all, running-no-position, running-no-metric, running-more, kept-room, small-released}
 use borrow.Author.Needs.{needs}
 use native.Mathlib.Omega.{arith}
 use Rattle.trial.proofs.run_offers.Statement.{statement}
@@ -72,7 +72,7 @@ offer-requires c κs = kept-room _ (c .before .before .before .before .before .b
 store-requires : tie.Need-store-requires Inv-loop μ-loop
 store-requires c κs = (
   rw (c .before .before .offer .ensures)
-      (kept-offered _ _ _ (c .before .before .before .before .before .before .before .before .before .before .loop .inv .1 .kept) (small (c .before .before .before .before .before)) (c .before .before .before .candidate-of .ensures .whole) .1),
+      (small-released _ _ _ (c .before .before .before .before .before .before .before .before .before .before .loop .inv .1 .kept) (small (c .before .before .before .before .before)) (c .before .before .before .candidate-of .ensures .whole)),
   omega (arith, c .before .before .before .before .before .before .before .before .before .before .loop .inv, c .before .before .before .before .before .before .before .before .before .loop-test .taken, c .before .before .before .before .before .before .before .before .before .before .before .before .before .pre),
 )
 

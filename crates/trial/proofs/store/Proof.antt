@@ -22,7 +22,7 @@ slice-write-row : tie.Need-slice-write-row
 slice-write-row c = search needs
 
 float-to-int-row : tie.Need-float-to-int-row
-float-to-int-row c = whole-in-u64 _ (rw (c .before .before .r .given .1) at (c .before .before .before .before .pre .0))
+float-to-int-row c = whole-in-u64 _ ((rw (c .before .before .r .given .1) at (c .before .before .before .before .pre .0)) .1)
 
 add-row : tie.Need-add-row
 add-row c = search needs
