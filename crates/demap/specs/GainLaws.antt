@@ -1,5 +1,5 @@
--- Steps divided by their mean norm g are bounded: with S the rounded sum of the norms and g = S / n rounded, finite and above 0, each part of a step is at most 4 S in size, so divided by g it is at most 8 n.
--- Squares and fractions throughout: no power of two but the format's smallest value is named. Assumes nothing.
+-- Steps divided by their mean norm g are bounded: with S the rounded sum of the norms and g = S / n rounded, finite and above 0,
+-- each part of a step is at most 4 S in size, so divided by g it is at most 8 n. Squares and fractions throughout: no power of two but the format's smallest value is named. Assumes nothing.
 use mathlib.Core.Path.{_≡_, refl, sym, ap, _∙_, subst}
 use mathlib.Core.Logic.{_⊎_, inl, inr, ⊎-elim}
 use Prim.Native.Nat.{ℕ, zero, suc, _*_, _^_, _≤_, _<_}
@@ -8,18 +8,18 @@ use native.Mathlib.Omega.{arith}
 use mathlib.Core.Bool.{Bool, false}
 use lib.IntN.{pos}
 use lib.Dec.{T, lit≤}
-use lib.Ieee.{Float, fin, binary64, prec, emax, low, round, add, mul, div, ofInt, ofBits, fits}
-use lib.Ieee.Fits.{add-fits, mul-fits}
+use lib.Ieee.{Float, nan, inf, fin, binary64, prec, emax, low, round, add, mul, div, ofInt, ofBits, fits}
+use lib.Ieee.Fits.{add-fits, mul-fits, div-fits}
 use lib.Ieee.Back.{round-whole}
 use lib.Ieee.Scale.{finite}
 use lib.Ieee.Positive.{num, den, den-pos, through, positive}
 use Rattle.complex.specs.declared.Complex.{Complex}
-use Rattle.complex.specs.Arithmetic.{cdiv, normSqr}
-use Rattle.laws.specs.Sign.{signOf, signed-of}
-use Rattle.laws.specs.Plain.{plain, plain-finite, plain-signed, positive-plain, positive-num, value-plain}
+use Rattle.complex.specs.Arithmetic.{fzero, cdiv, normSqr}
+use Rattle.laws.specs.Sign.{Signed, signOf, signed-of, round-signed}
+use Rattle.laws.specs.Plain.{plain, plain-finite, plain-signed, finite-plain, positive-plain, positive-num, value-plain}
 use Rattle.laws.specs.Size.{Within, within-mono, round-within}
 use Rattle.laws.specs.Rounding.{smallest, round-zero, round-half}
-use Rattle.laws.specs.Operations.{square-is, div-is, add-finite, div-finite, add-plain, add-comm, add-ge, add-zeros}
+use Rattle.laws.specs.Operations.{square-is, div-is, add-finite, div-finite, add-plain, add-comm, add-ge, add-zeros, add-nought}
 use Rattle.root.specs.Root.{normOf, sqrtOf}
 use Rattle.root.specs.RootFacts.{sqrt-zero, sqrt-square}
 use Rattle.root.specs.NormLaws.{norm-sqr-finite, norm-sqr-fits, norm-finite, norm-plain, norm-fits}
@@ -138,11 +138,11 @@ norm-good z h =
     (norm-plain z n, norm-fits z, root-clear (normSqr z) (norm-sqr-finite z n .sum) (norm-sqr-fits z))
 
 -- its parts are finite and at most 4 S
-pub record Under (S : Float) (z : Complex) : Type 0 where
-  pub re-finite : T (finite (z .re))
-  pub im-finite : T (finite (z .im))
-  pub re-under : num (z .re) * den S ≤ 4 * (num S * den (z .re))
-  pub im-under : num (z .im) * den S ≤ 4 * (num S * den (z .im))
+record Under (S : Float) (z : Complex) : Type 0 where
+  re-finite : T (finite (z .re))
+  im-finite : T (finite (z .im))
+  re-under : num (z .re) * den S ≤ 4 * (num S * den (z .re))
+  im-under : num (z .im) * den S ≤ 4 * (num S * den (z .im))
 
 step-under : (S : Float) (z : Complex) → T (finite (normOf z)) → num (normOf z) * den S ≤ num S * den (normOf z) → Clear S → Under S z
 unfolding normOf normSqr
@@ -165,10 +165,10 @@ step-under S z h l c =
     }
 
 -- ---- the sum of the norms
-pub record Added (x y s : Float) : Type 0 where
-  pub good : Good s
-  pub left : num x * den s ≤ num s * den x
-  pub right : num y * den s ≤ num s * den y
+record Added (x y s : Float) : Type 0 where
+  good : Good s
+  left : num x * den s ≤ num s * den x
+  right : num y * den s ≤ num s * den y
 
 add-good : (x y : Float) → Good x → Good y → T (finite (add binary64 x y)) → Added x y (add binary64 x y)
 add-good x y a b h = record { good = (p, add-fits binary64 x y, go (a .2) (b .2)); left = l; right = m }
@@ -194,10 +194,10 @@ unfolding fits
 nought-good = (tt, tt, inl refl)
 
 -- a finite sum is good, and every norm is finite and at most it
-pub record Summed (u : ℕ → Complex) (n : ℕ) (S : Float) : Type 0 where
-  pub good : Good S
-  pub finite-at : (k : ℕ) → k < n → T (finite (normOf (u k)))
-  pub under : (k : ℕ) → k < n → num (normOf (u k)) * den S ≤ num S * den (normOf (u k))
+record Summed (u : ℕ → Complex) (n : ℕ) (S : Float) : Type 0 where
+  good : Good S
+  finite-at : (k : ℕ) → k < n → T (finite (normOf (u k)))
+  under : (k : ℕ) → k < n → num (normOf (u k)) * den S ≤ num S * den (normOf (u k))
 
 sum-good : (u : ℕ → Complex) (n : ℕ) → T (finite (sumOfNorms u n)) → Summed u n (sumOfNorms u n)
 unfolding sumOfNorms ofBits
@@ -233,22 +233,22 @@ count-is n N M =
     record { is-plain = v .0; value = w; above = subst (λ (x : ℕ). 0 < x) (sym w) (mul-pos N (den-pos c)) }
 
 -- ---- g = S / c for a count c: S / n ≤ 2 g where g is above 0, and S is not 0 then
+quotient : Float → Float → Float
+quotient S c = round binary64 false (num S * den c) (num c * den S)
+
+quotient-is : (S c : Float) (n : ℕ) → Count n c → T (plain S) → div binary64 S c ≡ quotient S c
+unfolding quotient
+quotient-is S c n C P =
+    div-is binary64 S c (plain-finite S P) (C .is-plain) (C .above)
+    ∙ ap (λ (b : Bool). round binary64 b (num S * den c) (num c * den S)) (signed-of false S (plain-signed S P))
+
 module _ (S c : Float) (n : ℕ) (C : Count n c) (P : T (plain S)) (G : T (positive (div binary64 S c))) where
-  quotient : Float
-  quotient = round binary64 false (num S * den c) (num c * den S)
-
-  quotient-is : div binary64 S c ≡ quotient
-  unfolding quotient
-  quotient-is =
-      div-is binary64 S c (plain-finite S P) (C .is-plain) (C .above)
-      ∙ ap (λ (b : Bool). round binary64 b (num S * den c) (num c * den S)) (signed-of false S (plain-signed S P))
-
   mean-half : num S * den (div binary64 S c) ≤ 2 * n * num (div binary64 S c) * den S
   unfolding quotient
   mean-half =
-      let g = quotient in
-      let p : T (positive g) = subst (λ (x : Float). T (positive x)) quotient-is G in
-      subst (λ (x : Float). num S * den x ≤ 2 * n * num x * den S) (sym quotient-is)
+      let g = quotient S c in
+      let p : T (positive g) = subst (λ (x : Float). T (positive x)) (quotient-is S c n C P) G in
+      subst (λ (x : Float). num S * den x ≤ 2 * n * num x * den S) (sym (quotient-is S c n C P))
       (elim (round-half binary64 (num S * den c) (num c * den S) (mul-pos (C .above) (den-pos S)) (positive-plain g p)) [
         | inl h ↦ le-of-mul-le-mul-right
             (le-trans (le-of-eq (turn (num S) (den c) (den g)))
@@ -270,7 +270,7 @@ module _ (S c : Float) (n : ℕ) (C : Count n c) (P : T (plain S)) (G : T (posit
   unfolding quotient
   mean-zero z =
       let e : div binary64 S c ≡ fin false 0 (pos 0) =
-      quotient-is ∙ ap (λ (a : ℕ). round binary64 false a (num c * den S)) (ap (λ (x : ℕ). x * den c) z ∙ zero-mul (den c))
+      quotient-is S c n C P ∙ ap (λ (a : ℕ). round binary64 false a (num c * den S)) (ap (λ (x : ℕ). x * den c) z ∙ zero-mul (den c))
       ∙ round-zero binary64 false (num c * den S) (mul-pos (C .above) (den-pos S)) in
       subst (λ (g : Float). T (positive g)) e G
 
@@ -313,3 +313,26 @@ gain-near u n N M G i I =
     let z = cdiv (u i) (meanNorm u n) in
     let b = gain-within u n N M G i I in
     (within-mono (z .re) 16 500 (lit≤ tt) (b .0), within-mono (z .im) 16 500 (lit≤ tt) (b .1))
+
+-- ---- the Rust adds eps = 0.0 to the mean, which changes nothing
+finite-mean : (u : ℕ → Complex) (n : ℕ) → 0 < n → n ≤ 2 ^ prec binary64 → T (finite (meanNorm u n)) → T (plain (meanNorm u n))
+unfolding meanNorm quotient
+finite-mean u n N M h =
+    let S = sumOfNorms u n in
+    let c = ofInt binary64 (pos n) in
+    let s = sum-good u n (div-finite binary64 S c h) in
+    let e = quotient-is S c n (count-is n N M) (s .good .0) in
+    finite-plain (div binary64 S c) h (subst (λ (x : Float). Signed false x) (sym e) (round-signed binary64 false (num S * den c) (num c * den S)))
+
+mean-fits : (u : ℕ → Complex) (n : ℕ) → T (fits binary64 (meanNorm u n))
+unfolding meanNorm
+mean-fits u n = div-fits binary64 (sumOfNorms u n) (ofInt binary64 (pos n))
+
+pub mean-eps : (u : ℕ → Complex) (n : ℕ) → 0 < n → n ≤ 2 ^ prec binary64 → add binary64 (meanNorm u n) fzero ≡ meanNorm u n
+unfolding ofBits
+mean-eps u n N M = go (meanNorm u n) (mean-fits u n) (finite-mean u n N M)
+  where
+    go : (m : Float) → T (fits binary64 m) → (T (finite m) → T (plain m)) → add binary64 m (fin false 0 (pos 0)) ≡ m
+    go nan f p = unfold add in refl
+    go (inf s) f p = unfold add in refl
+    go (fin s a e) f p = add-nought binary64 (fin s a e) f (p tt)

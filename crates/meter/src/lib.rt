@@ -84,7 +84,8 @@ fn read_bits(soft: &[f64], out: &mut [u8])
 {
     let mut i = 0;
     while i < out.len() {
-        out[i] = laws::sign_bit(soft[i]);
+        let x = soft[i];
+        out[i] = laws::sign_bit(x);
         i += 1;
     }
 }

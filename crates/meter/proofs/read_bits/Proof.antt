@@ -29,11 +29,11 @@ abbrev μ-loop : tie.MeasureT-loop
 loop-holds : tie.Need-loop-holds Inv-loop μ-loop
 loop-holds c = (omega arith, refl, filled-none _ _)
 
-mul-sign-bit : tie.Need-mul-sign-bit Inv-loop μ-loop
-mul-sign-bit c = omega arith
+mul-x : tie.Need-mul-x Inv-loop μ-loop
+mul-x c = omega arith
 
-shared-slice-read-sign-bit : tie.Need-shared-slice-read-sign-bit Inv-loop μ-loop
-shared-slice-read-sign-bit c = omega arith
+shared-slice-read-x : tie.Need-shared-slice-read-x Inv-loop μ-loop
+shared-slice-read-x c = omega arith
 
 sign-bit-requires : tie.Need-sign-bit-requires Inv-loop μ-loop
 sign-bit-requires c κs = search needs
@@ -63,4 +63,4 @@ returns c = whole _ _ _ _ (c .before .loop .inv .2) (omega arith)
 pub read-bits-spec : {M : Type 1} → statement M
 read-bits-spec =
     tie.close
-    (tie.spec Inv-loop μ-loop loop-holds mul-sign-bit shared-slice-read-sign-bit sign-bit-requires slice-write-out add-i loop-less loop-again same-length returns)
+    (tie.spec Inv-loop μ-loop loop-holds mul-x shared-slice-read-x sign-bit-requires slice-write-out add-i loop-less loop-again same-length returns)
