@@ -3,13 +3,13 @@ use mathlib.Core.Path.{_≡_, refl, sym, subst}
 use Prim.Native.Nat.{ℕ, _*_, _≤_, _<_}
 use native.Mathlib.Nat.{le-trans, le-of-eq, le-suc, mul-pos}
 use mathlib.Core.Bool.{Bool, true, false, not, _&&_, _||_, true≢false}
-use lib.Dec.{T, ltb, eqb, eqb→eq, ltb→lt}
+use lib.Dec.{T, ltb, eqb, eqb→eq, ltb→lt, lt→ltb}
 use lib.Ieee.{Float, nan, inf, fin, up, down, le}
 use lib.Ieee.Fits.{and-l, up-pos}
 use lib.Ieee.Exact.{HasValue}
 use lib.Ieee.Order.{le-of-values}
 use lib.Ieee.Scale.{finite}
-use lib.Ieee.Positive.{num, den, den-pos, positive}
+use lib.Ieee.Positive.{num, den, den-pos, positive, first-pos}
 use Rattle.laws.specs.Sign.{Signed}
 
 -- finite with a clear sign: not negative, +0 included, −0 left out
@@ -45,6 +45,12 @@ positive-num nan p = absurd p
 positive-num (inf s) p = absurd p
 positive-num (fin true m e) p = absurd p
 positive-num (fin false m e) p = mul-pos (ltb→lt 0 m p) (up-pos e)
+
+pub plain-positive : (x : Float) → T (plain x) → 0 < num x → T (positive x)
+plain-positive nan p h = absurd p
+plain-positive (inf s) p h = absurd p
+plain-positive (fin true m e) p h = absurd p
+plain-positive (fin false m e) p h = lt→ltb 0 m (first-pos m (up e) h)
 
 pub plain-value : (x : Float) → T (plain x) → HasValue x false (num x) (den x)
 plain-value nan p = absurd p
