@@ -9,7 +9,7 @@ use lib.ListN.{getD}
 use Rattle.refusal.specs.Outcome.{answered}
 use Rattle.level.specs.declared.Layout.{Layout}
 use Rattle.level.specs.Level.{Level, levels, levelOf}
-use Rattle.level.specs.Layout.{carrierCount, stagger, greatestStagger, layoutOf}
+use Rattle.level.specs.Layout.{carrierCount, tapCount, pulseOf, stagger, greatestStagger, layoutOf}
 use Rattle.level.specs.Lengths.{carrierHz, cells, rowLength, memoryLength}
 use Rattle.level.specs.Tested.{below, below-at}
 use Rattle.level.specs.Rows.{IsLayout, row-rule, layout-rule, at-most, equal}
@@ -100,3 +100,8 @@ unfolding rowLength
 row-most l i frames h =
     let s : Sized l = sized l i in
     omega (arith, mul-le-mul h (s .nsym-most))
+
+-- the pulse of a layout has the layout's taps
+pub pulse-taps : (l : Layout) → IsLayout l → l .taps ≡ tapCount (pulseOf (l .taps))
+unfolding layoutOf
+pulse-taps l i = equal l i (λ x. x .taps) (λ x. tapCount (pulseOf (x .taps))) tt

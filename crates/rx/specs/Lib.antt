@@ -1,0 +1,5 @@
+pub mod Receiver
+pub mod View
+pub mod Conditions
+pub mod Feed
+pub mod Open

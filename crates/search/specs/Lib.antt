@@ -1,0 +1,2 @@
+pub mod Chi
+pub mod Search
