@@ -37,7 +37,6 @@ pub record Given : Type 0 where
 
 -- rows 3 to 7 and 16 to 20, top to bottom
 unfoldable pub feedFault : Layout → Given → State → ℕ → Fault
-unfolding tableFault wrongBook wrongState wrongSamples wrongNumber wrongParts
 feedFault l g s room =
     orElse (tableFault l (g .markers) (g .phasors))
     (firstFault
@@ -50,7 +49,6 @@ feedFault l g s room =
 
 -- the feed that is lent: two f64 a sample
 unfoldable pub feedOf : Given → Feed
-unfolding complexes
 feedOf g =
     record {
       tables = record { markers = g .markers; phasors = g .phasors };
@@ -60,7 +58,6 @@ feedOf g =
 
 -- what a feed answers: the number of the first fault, or what it releases
 unfoldable pub feedOutcome : Given → State → List Float → Outcome (List Detection)
-unfolding chosen feedFault fed feedOf view
 feedOutcome g s memory =
     andThen (chosen (g .bandwidth) (g .rec))
     (λ l. judged (feedFault l g s (length memory)) (answered (fed l (feedOf g) (view l s memory) .released)))

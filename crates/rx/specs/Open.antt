@@ -39,13 +39,11 @@ openedState l start =
 
 -- rows 3 to 7, 15 and 16
 unfoldable pub openFault : Layout → List ℕ → List Float → ℕ → List Float → Fault
-unfolding tableFault wrongStart wrongBook
 openFault l markers phasors start book =
     orElse (tableFault l markers phasors) (firstFault ((no.Start, wrongStart start) ∷ (no.TurnBook, wrongBook book) ∷ []))
 
 -- what an opening answers
 unfoldable pub openOutcome : ℕ → ℕ → List ℕ → List Float → ℕ → List Float → Outcome State
-unfolding chosen openFault openedState
 openOutcome hz rec markers phasors start book =
     andThen (chosen hz rec) (λ l. judged (openFault l markers phasors start book) (answered (openedState l start)))
 

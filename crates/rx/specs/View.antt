@@ -19,7 +19,6 @@ carrierIn l s memory c =
 
 -- the receiver that a state has in a memory
 unfoldable pub view : Layout → State → List Float → Receiver
-unfolding tabulate trackIn
 view l s memory =
     record {
       start = s .start .0;
