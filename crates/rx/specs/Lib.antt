@@ -3,3 +3,6 @@ pub mod View
 pub mod Conditions
 pub mod Feed
 pub mod Open
+pub mod Sound
+pub mod Numbers
+pub mod Once
