@@ -6,3 +6,4 @@ pub mod Open
 pub mod Sound
 pub mod Numbers
 pub mod Once
+pub mod After

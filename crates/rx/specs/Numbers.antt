@@ -78,8 +78,12 @@ even-between : (x y : ℕ) → x ≤ y → y ≤ x + x % 2 → y + y % 2 ≡ x +
 even-between x y h k = omega arith
 
 -- no trim passes the place where the search goes on
-below-place : (keep r fb fe fe′ b p : ℕ) → r + 4107 ≤ keep → fe′ ≤ fe + 4000 → fe ≤ p + r → b ≤ max fb (fe′ - keep) → b ≤ max fb (p - 107)
+pub below-place : (keep r fb fe fe′ b p : ℕ) → r + 4107 ≤ keep → fe′ ≤ fe + 4000 → fe ≤ p + r → b ≤ max fb (fe′ - keep) → b ≤ max fb (p - 107)
 below-place keep r fb fe fe′ b p h₁ h₂ h₃ h₄ = omega arith
+
+-- a place 2 to 10 behind a held candidate, or 32 past a base at most 1,000 past it
+pub place-held : (p b base : ℕ) → p ≤ b + 10 → base ≤ b + 1000 → max p (base + 32) + max p (base + 32) % 2 ≤ b + 1033
+place-held p b base h k = omega arith
 
 place-between : (q fb b : ℕ) → fb ≤ b → b ≤ max fb (max q (fb + 32) + max q (fb + 32) % 2 - 107)
     → (max q (fb + 32) ≤ max q (b + 32)) × (max q (b + 32) ≤ max q (fb + 32) + max q (fb + 32) % 2)

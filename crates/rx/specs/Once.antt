@@ -1,5 +1,5 @@
 -- An accepted feed releases at most one (01, "Search and hold": "A feed releases at most one"), from every state that condition 17 does not refuse. Assumes nothing.
-use Prim.Native.Nat.{ℕ, zero, suc, _+_, _-_, _*_, _/_, _%_, _≤_, _<_, max}
+use Prim.Native.Nat.{ℕ, zero, suc, _+_, _-_, _*_, _/_, _≤_, _<_}
 use mathlib.Core.Path.{_≡_, refl}
 use mathlib.Core.Bool.{Bool, true, false, _&&_, cond}
 use mathlib.Core.List.{List, [], _∷_, _++_}
@@ -33,7 +33,7 @@ use Rattle.rx.specs.Receiver.{searchFrom, Feed, fed}
 use Rattle.rx.specs.View.{view}
 use Rattle.rx.specs.Conditions.{spanEnd, wrongState}
 use Rattle.rx.specs.Sound.{Waits, Sound, sound}
-use Rattle.rx.specs.Numbers.{endWith, placeIn, end-later-by, chiAfter, countWith, released-are, dead-long}
+use Rattle.rx.specs.Numbers.{endWith, placeIn, end-later-by, chiAfter, countWith, released-are, place-held, dead-long}
 
 -- ---- offers at positions below q, each with q at most `dead` past it
 abbrev Close : ℕ → ℕ → Offer → Type 0
@@ -113,13 +113,10 @@ each-offer P chi p (suc n) h = each-append P (offersFrom chi p n) (offerOf (p + 
 count-few : (r p e e′ : ℕ) → e ≤ p + r → e′ ≤ e + 4000 → 2 * ((e′ - r - p + 1) / 2) ≤ 4000
 count-few r p e e′ h k = omega arith
 
-held-near : (p b base : ℕ) → p ≤ b + 10 → base ≤ b + 1000 → max p (base + 32) + max p (base + 32) % 2 ≤ b + 1033
-held-near p b base h k = omega arith
-
 held-close : (dead q base : ℕ) (s : SearchPlace) (best : Held) → 11008 ≤ dead → q ≤ searchFrom s base + 4000 → Waits s base best → HeldClose dead q best
 held-close dead q base s held.Empty d h w = tt
 held-close dead q base Fresh (held.At b m) d h w = absurd w
-held-close dead q base (At p) (held.At b m) d h w = let v = held-near (p .0) (b .0) base (w .1) (w .2) in omega arith
+held-close dead q base (At p) (held.At b m) d h w = let v = place-held (p .0) (b .0) base (w .1) (w .2) in omega arith
 
 module _ (l : Layout) (i : IsLayout l) (s : State) (memory : List Float) (f : Feed) where
   pub sound-once : Sound l s → length (f .samples) ≤ 4000 → length (fed l f (view l s memory) .released) ≤ 1
