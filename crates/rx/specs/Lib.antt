@@ -4,3 +4,7 @@ pub mod Conditions
 pub mod Near
 pub mod Feed
 pub mod Open
+pub mod Sound
+pub mod Numbers
+pub mod Once
+pub mod After
