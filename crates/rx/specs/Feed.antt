@@ -35,6 +35,10 @@ pub record Given : Type 0 where
   pub number : ℕ
   pub samples : List Float
 
+abbrev pub given : ℕ → ℕ → List ℕ → List Float → List Float → ℕ → List Float → Given
+given hz rec markers phasors book number samples =
+    record { bandwidth = hz; rec = rec; markers = markers; phasors = phasors; book = book; number = number; samples = samples }
+
 -- rows 16 to 20, top to bottom
 unfoldable pub sampleFault : Layout → List Float → State → ℕ → ℕ → List Float → Fault
 sampleFault l book s room number samples =

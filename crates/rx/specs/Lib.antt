@@ -4,7 +4,11 @@ pub mod Conditions
 pub mod Near
 pub mod Feed
 pub mod Open
+pub mod Local
 pub mod Sound
 pub mod Numbers
 pub mod Once
 pub mod After
+pub mod Accept
+pub mod Ready
+pub mod Fed

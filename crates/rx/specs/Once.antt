@@ -28,6 +28,7 @@ use Rattle.hold.specs.Releases.{released, releases}
 use Rattle.search.specs.Search.{reach, offerOf, offersFrom}
 use Rattle.rx.specs.declared.SearchPlace.{SearchPlace}
 use Rattle.rx.specs.declared.SearchPlace.the-variants.{Fresh, At}
+use Rattle.search.specs.Fits.{lastReleased}
 use Rattle.rx.specs.declared.State.{State}
 use Rattle.rx.specs.Receiver.{searchFrom, Feed, fed}
 use Rattle.rx.specs.View.{view}
@@ -135,11 +136,6 @@ module _ (l : Layout) (i : IsLayout l) (s : State) (memory : List Float) (f : Fe
   once e few = sound-once (sound l (length memory) s e .0) few
 
 -- ---- "one answer or none": the release of a list of at most one
-unfoldable pub lastReleased : List Detection → Release
-lastReleased [] = NoRelease
-lastReleased (d ∷ []) = Released (d .position) (d .metric)
-lastReleased (d ∷ e ∷ ds) = lastReleased (e ∷ ds)
-
 pub released-last : (ds : List Detection) → length ds ≤ 1 → released (lastReleased ds) [] ≡ ds
 unfolding lastReleased released
 released-last [] h = refl
