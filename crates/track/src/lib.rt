@@ -24,7 +24,7 @@ pub fn part_start(l: Layout, part: usize) -> usize
     part * (2 * l.keep as usize + 4000)
 }
 
-// The span of a track after an append of count values: of more than 2 × keep, the newest keep remain.
+// The span of a track after an append of `count` values: of more than 2 × keep, the newest keep remain.
 pub fn span_after(span: Span, keep: u64, count: usize) -> Span
     requires { ⌜ (span .base .0 < 2 ^ 50) × (span .len < 2 ^ 30) × (keep < 2 ^ 30) × (count < 2 ^ 30) ⌝ }
     ensures { λ r. ⌜ r ≡ spanAfter keep span count ⌝ }
@@ -46,7 +46,7 @@ pub fn span_after(span: Span, keep: u64, count: usize) -> Span
     }
 }
 
-// Stores the first count complex numbers of new from place at on.
+// Stores the first `count` complex numbers of `new` from place `at` on.
 fn store(memory: &mut [f64], at: usize, new: &[f64], count: usize)
     requires { ⌜ (2 * (at + count) ≤ length (now memory)) × (2 * count ≤ length (now new)) ⌝ }
     ensures { λ _. ⌜ Stored (now (memory .entry)) (now (memory .exit)) at count (cget (now (new .entry))) ⌝ }
@@ -58,7 +58,7 @@ fn store(memory: &mut [f64], at: usize, new: &[f64], count: usize)
     }
 }
 
-// Moves the count complex numbers that stand cut places after place at down to it.
+// Moves the `count` complex numbers that stand `cut` places after place `at` down to it.
 fn move_down(memory: &mut [f64], at: usize, cut: usize, count: usize)
     requires { ⌜ 2 * (at + cut + count) ≤ length (now memory) ⌝ }
     ensures { λ _. ⌜ Stored (now (memory .entry)) (now (memory .exit)) at count (λ i. cget (now (memory .entry)) (at + cut + i)) ⌝ }
@@ -71,7 +71,7 @@ fn move_down(memory: &mut [f64], at: usize, cut: usize, count: usize)
     }
 }
 
-// Appends the first count complex numbers of new to the track in a part of the memory.
+// Appends the first `count` complex numbers of `new` to the track in a part of the memory.
 pub fn append(
     l: Layout,
     memory: &mut [f64],

@@ -25,19 +25,28 @@ same-length c = search needs
 
 returns : tie.Need-returns
 returns c =
-    appended _ _ _ _ _ _ _ _ _ _ (c .before .before .before .before .before .before .before .before .before .before .before .before .pre) (c .before .before .before .before .before .before .before .before .before .part-start .ensures)
-    (c .before .before .before .before .before .before .store .ensures) (c .before .before .before .span-after .ensures) (c .if1 .taken)
+    let k = c .before .before .before .before .before .before .before .before .before .before .before .before .pre in
+    let at = c .before .before .before .before .before .before .before .before .before .part-start in
+    let w = c .before .before .before .before .before .before .store in
+    let r = c .before .before .before .span-after in
+    appended _ _ _ _ _ _ _ _ _ _ k (at .ensures) (w .ensures) (r .ensures) (c .if1 .taken)
 
 move-down-requires : tie.Need-move-down-requires
-move-down-requires c κs = omega (arith, room (c .before .before .before .before .before .before .before .before .before .before .before .before .before .pre), numbers _ _ _ _ (c .before .before .before .before .span-after .ensures))
+move-down-requires c κs =
+    let k = c .before .before .before .before .before .before .before .before .before .before .before .before .before .pre in
+    let r = c .before .before .before .before .span-after in
+    omega (arith, room k, numbers _ _ _ _ (r .ensures))
 
 same-length-2 : tie.Need-same-length-2
 same-length-2 c = search needs
 
 returns-2 : tie.Need-returns-2
 returns-2 c =
-    appended-cut _ _ _ _ _ _ _ _ _ _ (c .before .before .before .before .before .before .before .before .before .before .before .before .before .before .before .before .pre) (c .before .before .before .before .before .before .before .before .before .before .before .before .before .part-start .ensures)
-    (c .before .before .before .before .before .before .before .before .before .before .store .ensures) (c .before .before .before .before .before .before .before .span-after .ensures) _ (c .before .before .move-down .ensures)
+    let k = c .before .before .before .before .before .before .before .before .before .before .before .before .before .before .before .before .pre in
+    let at = c .before .before .before .before .before .before .before .before .before .before .before .before .before .part-start in
+    let w = c .before .before .before .before .before .before .before .before .before .before .store in
+    let r = c .before .before .before .before .before .before .before .span-after in
+    appended-cut _ _ _ _ _ _ _ _ _ _ k (at .ensures) (w .ensures) (r .ensures) _ (c .before .before .move-down .ensures)
 
 pub append-spec : {M : Type 1} → statement M
 append-spec =
