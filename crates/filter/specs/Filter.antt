@@ -20,7 +20,6 @@ turnAt book hz n = cget book (hz * n % 3000)
 
 -- carrier c's filtered value at position m, of samples s: the turned samples from m − delay on, each times its tap
 unfoldable pub filteredAt : Layout → List Float → ℕ → (ℕ → Complex) → ℕ → Complex
-unfolding sumTo cscale cmul receiverTap
 filteredAt l book c s m =
     sumTo
     (λ j. cscale (cmul (turnAt book (carrierHz l c) (m - l .delay + j)) (s (m - l .delay + j))) (receiverTap (pulseOf (l .taps)) j))
@@ -28,12 +27,10 @@ filteredAt l book c s m =
 
 -- the step at position m, of filtered values y that begin at base: "a step with no neighbour 32 before is zero"
 unfoldable pub stepAt : ℕ → (ℕ → Complex) → ℕ → Complex
-unfolding unitOf cmul cconj
 stepAt base y m = cond (leb (base + 32) m) (unitOf (cmul (y m) (cconj (y (m - 32))))) czero
 
 -- the power of a step, of the order of the alphabet's size: 2 or 4
 unfoldable pub powerOf : Layout → Complex → Complex
-unfolding cpow
 powerOf l z = cpow (2 ^ l .bps) z
 
 -- the end of the filtered track where the samples end at e: the first value waits for `delay` samples on either side

@@ -4,7 +4,7 @@ use mathlib.Core.Bool.{Bool, true, false, not, _&&_, _||_}
 use mathlib.Core.List.{List, [], _∷_}
 use lib.Dec.{leb, ltb, eqb}
 use lib.ListN.{length, getD}
-use lib.Ieee.{Float, nan, binary64, ofBits}
+use lib.Ieee.{Float, nan, binary64, ofBits, neg}
 use Rattle.refusal.specs.declared.Position.{Position}
 use Rattle.refusal.specs.Any.{any}
 use Rattle.laws.specs.Tests.{inRange, inSize}
@@ -31,13 +31,9 @@ wrongStart start = ltb (2 ^ 40) start
 abbrev pub one : Float
 one = ofBits binary64 0x3ff0_0000_0000_0000
 
-abbrev pub minusOne : Float
-minusOne = ofBits binary64 0xbff0_0000_0000_0000
-
 -- 16: "turn book length, or part outside −1 to 1": 3,000 complex numbers
 unfoldable pub wrongBook : List Float → Bool
-unfolding any inRange
-wrongBook book = not (eqb (length book) 6000) || any (λ i. not (inRange minusOne one (getD book i nan))) 6000
+wrongBook book = not (eqb (length book) 6000) || any (λ i. not (inRange (neg one) one (getD book i nan))) 6000
 
 -- ---- 17
 -- the position after a span's last
@@ -113,7 +109,6 @@ farPositions s =
 
 -- 17, of a memory of `room` f64
 unfoldable pub wrongState : Layout → ℕ → State → Bool
-unfolding otherLayout wrongHold longTracks unequalTracks wrongEnd lateSamples unsearched wrongHeld farPositions
 wrongState l room s =
     not (eqb room (2 * memoryLength l)) || otherLayout l s || wrongHold l s || longTracks l s || farPositions s || unequalTracks s || wrongEnd l s || lateSamples l s
     || unsearched l s || wrongHeld s
@@ -128,8 +123,8 @@ unfoldable pub wrongSamples : ℕ → Bool
 wrongSamples floats = not (eqb (floats % 2) 0) || tooMany (floats / 2)
 
 -- 19: "first sample's number not the sample end, or end past 2^48"
-unfoldable pub wrongNumber : State → ℕ → ℕ → Bool
-wrongNumber s number count = not (eqb number (spanEnd (s .samples))) || ltb (2 ^ 48) (spanEnd (s .samples) + count)
+unfoldable pub wrongNumber : Span → ℕ → ℕ → Bool
+wrongNumber samples number count = not (eqb number (spanEnd samples)) || ltb (2 ^ 48) (spanEnd samples + count)
 
 -- 2^20 as f64: the largest size of a part
 abbrev pub largest : Float
@@ -137,5 +132,4 @@ largest = ofBits binary64 0x4130_0000_0000_0000
 
 -- 20: "part not finite or above 2^20 in size"
 unfoldable pub wrongParts : List Float → Bool
-unfolding any inSize
 wrongParts samples = any (λ i. not (inSize largest (getD samples i nan))) (length samples)

@@ -35,32 +35,32 @@ pub record Given : Type 0 where
   pub number : ℕ
   pub samples : List Float
 
--- rows 3 to 7 and 16 to 20, top to bottom
-unfoldable pub feedFault : Layout → Given → State → ℕ → Fault
-unfolding tableFault wrongBook wrongState wrongSamples wrongNumber wrongParts
-feedFault l g s room =
-    orElse (tableFault l (g .markers) (g .phasors))
-    (firstFault
-    ((no.TurnBook, wrongBook (g .book)) ∷
+-- rows 16 to 20, top to bottom
+unfoldable pub sampleFault : Layout → List Float → State → ℕ → ℕ → List Float → Fault
+sampleFault l book s room number samples =
+    firstFault
+    ((no.TurnBook, wrongBook book) ∷
     (no.State, wrongState l room s) ∷
-    (no.SampleCount, wrongSamples (length (g .samples))) ∷
-    (no.SampleNumber, wrongNumber s (g .number) (length (g .samples) / 2)) ∷
-    (no.SampleSize, wrongParts (g .samples)) ∷
-    []))
+    (no.SampleCount, wrongSamples (length samples)) ∷
+    (no.SampleNumber, wrongNumber (s .samples) number (length samples / 2)) ∷
+    (no.SampleSize, wrongParts samples) ∷
+    [])
+
+-- rows 3 to 7, then 16 to 20
+unfoldable pub feedFault : Layout → Given → State → ℕ → Fault
+feedFault l g s room = orElse (tableFault l (g .markers) (g .phasors)) (sampleFault l (g .book) s room (g .number) (g .samples))
 
 -- the feed that is lent: two f64 a sample
 unfoldable pub feedOf : Given → Feed
-unfolding complexes
 feedOf g =
     record {
       tables = record { markers = g .markers; phasors = g .phasors };
       book = g .book;
-      samples = complexes (g .samples) 0 (length (g .samples) / 2)
+      samples = complexes (g .samples) 0 (length (g .samples) / 2);
     }
 
 -- what a feed answers: the number of the first fault, or what it releases
 unfoldable pub feedOutcome : Given → State → List Float → Outcome (List Detection)
-unfolding chosen feedFault fed feedOf view
 feedOutcome g s memory =
     andThen (chosen (g .bandwidth) (g .rec))
     (λ l. judged (feedFault l g s (length memory)) (answered (fed l (feedOf g) (view l s memory) .released)))

@@ -1,5 +1,10 @@
 pub mod Receiver
 pub mod View
 pub mod Conditions
+pub mod Near
 pub mod Feed
 pub mod Open
+pub mod Sound
+pub mod Numbers
+pub mod Once
+pub mod After

@@ -40,14 +40,13 @@ emptyCarrier p = record { filtered = emptyAt p; step = emptyAt p; power = emptyA
 
 -- "A receiver opens as `new` and then `start_at(start)`, with an empty sample track whose base and end are start." "Hold is 8, dead 32 × nsym − 128."
 unfoldable pub opened : Layout → ℕ → Receiver
-unfolding tabulate
 opened l start =
     record {
       start = start;
       samples = emptyAt start;
       carriers = tabulate (λ c. emptyCarrier (start + l .delay)) (l .nc);
       search = Fresh;
-      hold = freshHold 8 (l .dead)
+      hold = freshHold 8 (l .dead);
     }
 
 -- the rows of the carriers' tracks
@@ -62,14 +61,13 @@ powerRow cs c m = valueAt (carrierOf cs c .power) m
 
 -- carrier c after n new values from position e on, of samples s: `filter` of rx/psk.rs
 unfoldable pub carrierAfter : Layout → List Float → Track → ℕ → ℕ → ℕ → Carrier → Carrier
-unfolding append window filteredAt stepAt powerOf
 carrierAfter l book s e n c k =
     let y = append (l .keep) (k .filtered) (window (filteredAt l book c (valueAt s)) e n) in
     let d : ℕ → Complex = stepAt (y .base) (valueAt y) in
     record {
       filtered = y;
       step = append (l .keep) (k .step) (window d e n);
-      power = append (l .keep) (k .power) (window (λ m. powerOf l (d m)) e n)
+      power = append (l .keep) (k .power) (window (λ m. powerOf l (d m)) e n);
     }
 
 -- where the search may begin: `lo` of `step`, of a filtered track from base on
@@ -87,7 +85,6 @@ placeAfter s p (suc n) = At (record { 0 = p + 2 * suc n })
 
 -- the offers of a search over carriers, filtered up to e
 unfoldable pub offersOf : Layout → Tables → List Carrier → SearchPlace → ℕ → List Offer
-unfolding offersFrom chiAt
 offersOf l t cs s e =
     let p = searchFrom s (carrierOf cs 0 .filtered .base) in
     offersFrom (chiAt l t (stepRow cs) (powerRow cs)) p (searchCount l p e)
@@ -104,7 +101,6 @@ pub record Fed : Type 0 where
   pub released : List Detection
 
 unfoldable pub samplesAfter : Layout → Feed → Receiver → Track
-unfolding append
 samplesAfter l f r = append (l .keep) (r .samples) (f .samples)
 
 -- the filtered end before and after
@@ -115,13 +111,11 @@ abbrev pub endAfter : Layout → Feed → Receiver → ℕ
 endAfter l f r = filteredEnd l (r .start) (endOf (r .samples) + length (f .samples))
 
 unfoldable pub carriersAfter : Layout → Feed → Receiver → List Carrier
-unfolding tabulate carrierAfter samplesAfter
 carriersAfter l f r =
     tabulate (λ c. carrierAfter l (f .book) (samplesAfter l f r) (endBefore l r) (endAfter l f r - endBefore l r) c (carrierOf (r .carriers) c)) (l .nc)
 
 -- an accepted feed: the samples appended, every carrier filtered, every new position searched
 unfoldable pub fed : Layout → Feed → Receiver → Fed
-unfolding samplesAfter carriersAfter offersOf holdAfter releases
 fed l f r =
     let cs = carriersAfter l f r in
     let e = endAfter l f r in
@@ -129,12 +123,12 @@ fed l f r =
     let os = offersOf l (f .tables) cs (r .search) e in
     record {
       receiver =
-        record {
-          start = r .start;
-          samples = samplesAfter l f r;
-          carriers = cs;
-          search = placeAfter (r .search) p (searchCount l p e);
-          hold = holdAfter (r .hold) os
-        };
-      released = releases (r .hold) os
+          record {
+            start = r .start;
+            samples = samplesAfter l f r;
+            carriers = cs;
+            search = placeAfter (r .search) p (searchCount l p e);
+            hold = holdAfter (r .hold) os;
+          };
+      released = releases (r .hold) os;
     }

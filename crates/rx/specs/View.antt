@@ -14,17 +14,16 @@ carrierIn l s memory c =
     record {
       filtered = trackIn l memory (filteredPart c) (s .filtered);
       step = trackIn l memory (stepPart c) (s .step);
-      power = trackIn l memory (powerPart c) (s .power)
+      power = trackIn l memory (powerPart c) (s .power);
     }
 
 -- the receiver that a state has in a memory
 unfoldable pub view : Layout → State → List Float → Receiver
-unfolding tabulate trackIn
 view l s memory =
     record {
       start = s .start .0;
       samples = trackIn l memory samplesPart (s .samples);
       carriers = tabulate (carrierIn l s memory) (l .nc);
       search = s .search;
-      hold = s .hold
+      hold = s .hold;
     }

@@ -22,11 +22,9 @@ pub record Tables : Type 0 where
 
 -- all marks, and all cells that the search keeps, carrier by carrier
 unfoldable pub allMarks : Layout → Tables → List Cell
-unfolding byCarrier marksOf
 allMarks l t = byCarrier (marksOf l (t .markers)) (l .nc)
 
 unfoldable pub allKept : Layout → Tables → List Cell
-unfolding byCarrier cellsOf thin
 allKept l t = byCarrier (λ c. thin (cellsOf l (t .markers) c) (keptCells l)) (l .nc)
 
 -- where a cell of a frame at position p stands: 32 positions a symbol, behind its carrier's stagger
@@ -35,33 +33,28 @@ cellPosition l p x = p + stagger (l .nc) (x .carrier) + 32 * x .symbol
 
 -- the sum over cells, from zero, in their order, of a row's value at each times its reference
 unfoldable pub cellSum : Layout → List Cell → (ℕ → ℕ → Complex) → (ℕ → ℕ → Complex) → ℕ → Complex
-unfolding sumTo cmul
 cellSum l cells row ref p =
     sumTo
     (λ k.
-      let x = getD cells k (cellAt 0 0) in
-      cmul (row (x .carrier) (cellPosition l p x)) (ref (x .carrier) (x .symbol)))
+    let x = getD cells k (cellAt 0 0) in
+    cmul (row (x .carrier) (cellPosition l p x)) (ref (x .carrier) (x .symbol)))
     (length cells)
 
 -- the pilot sum: steps over the marks
 unfoldable pub pilotSum : Layout → Tables → (ℕ → ℕ → Complex) → ℕ → Complex
-unfolding cellSum allMarks referenceOf
 pilotSum l t step p = cellSum l (allMarks l t) step (referenceOf l (t .phasors)) p
 
 -- the data sum: powers over the kept cells
 unfoldable pub dataSum : Layout → Tables → (ℕ → ℕ → Complex) → ℕ → Complex
-unfolding cellSum allKept cellReferenceOf
 dataSum l t power p = cellSum l (allKept l t) power (cellReferenceOf l (t .phasors)) p
 
 -- |a|² / pilots + |b|² / cells
 unfoldable pub chiOf : Layout → Tables → Complex → Complex → Float
-unfolding normSqr allMarks allKept
 chiOf l t a b =
     Ieee.add binary64 (Ieee.div binary64 (normSqr a) (whole (length (allMarks l t)))) (Ieee.div binary64 (normSqr b) (whole (length (allKept l t))))
 
 -- chi at position p
 unfoldable pub chiAt : Layout → Tables → (ℕ → ℕ → Complex) → (ℕ → ℕ → Complex) → ℕ → Float
-unfolding chiOf pilotSum dataSum
 chiAt l t step power p = chiOf l t (pilotSum l t step p) (dataSum l t power p)
 
 -- 20

@@ -25,5 +25,4 @@ offerOf p x = record { position = record { 0 = p }; candidate = candidateOf x }
 
 -- the offers at n even positions from p on
 unfoldable pub offersFrom : (ℕ → Float) → ℕ → ℕ → List Offer
-unfolding tabulate candidateOf
 offersFrom chi p n = tabulate (λ i. offerOf (p + 2 * i) (chi (p + 2 * i))) n

@@ -26,5 +26,4 @@ powerPart c = 3 * c + 3
 
 -- the track of a span in part k: what lies past its end is no part of it
 unfoldable pub trackIn : Layout → List Float → ℕ → Span → Track
-unfolding complexes
 trackIn l memory k span = record { base = span .base .0; values = complexes memory (k * partLength l) (span .len) }

@@ -26,9 +26,8 @@ trimmedBase keep b e = cond (ltb (2 * keep) (e - b)) (e - keep) b
 
 -- a track with new values at its end
 unfoldable pub append : ℕ → Track → List Complex → Track
-unfolding trimmedBase
 append keep t new =
     record {
       base = trimmedBase keep (t .base) (endOf t + length new);
-      values = drop (trimmedBase keep (t .base) (endOf t + length new) - t .base) (t .values ++ new)
+      values = drop (trimmedBase keep (t .base) (endOf t + length new) - t .base) (t .values ++ new);
     }
