@@ -226,7 +226,8 @@ place-up x y = omega arith
 base-up : (x y : ℕ) → y ≤ max x y + max x y % 2
 base-up x y = omega arith
 
-base-below : (s : SearchPlace) (b p : ℕ) → searchFrom s b ≡ p → b + 32 ≤ p
+-- a search begins 32 past the base or later
+pub base-below : (s : SearchPlace) (b p : ℕ) → searchFrom s b ≡ p → b + 32 ≤ p
 base-below Fresh b p h = let u = base-up (b + 32) (b + 32) in omega arith
 base-below (At q) b p h = let u = base-up (q .0) (b + 32) in omega arith
 

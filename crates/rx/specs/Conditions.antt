@@ -123,8 +123,8 @@ unfoldable pub wrongSamples : ℕ → Bool
 wrongSamples floats = not (eqb (floats % 2) 0) || tooMany (floats / 2)
 
 -- 19: "first sample's number not the sample end, or end past 2^48"
-unfoldable pub wrongNumber : State → ℕ → ℕ → Bool
-wrongNumber s number count = not (eqb number (spanEnd (s .samples))) || ltb (2 ^ 48) (spanEnd (s .samples) + count)
+unfoldable pub wrongNumber : Span → ℕ → ℕ → Bool
+wrongNumber samples number count = not (eqb number (spanEnd samples)) || ltb (2 ^ 48) (spanEnd samples + count)
 
 -- 2^20 as f64: the largest size of a part
 abbrev pub largest : Float

@@ -35,17 +35,20 @@ pub record Given : Type 0 where
   pub number : ℕ
   pub samples : List Float
 
--- rows 3 to 7 and 16 to 20, top to bottom
-unfoldable pub feedFault : Layout → Given → State → ℕ → Fault
-feedFault l g s room =
-    orElse (tableFault l (g .markers) (g .phasors))
-    (firstFault
-    ((no.TurnBook, wrongBook (g .book)) ∷
+-- rows 16 to 20, top to bottom
+unfoldable pub sampleFault : Layout → List Float → State → ℕ → ℕ → List Float → Fault
+sampleFault l book s room number samples =
+    firstFault
+    ((no.TurnBook, wrongBook book) ∷
     (no.State, wrongState l room s) ∷
-    (no.SampleCount, wrongSamples (length (g .samples))) ∷
-    (no.SampleNumber, wrongNumber s (g .number) (length (g .samples) / 2)) ∷
-    (no.SampleSize, wrongParts (g .samples)) ∷
-    []))
+    (no.SampleCount, wrongSamples (length samples)) ∷
+    (no.SampleNumber, wrongNumber (s .samples) number (length samples / 2)) ∷
+    (no.SampleSize, wrongParts samples) ∷
+    [])
+
+-- rows 3 to 7, then 16 to 20
+unfoldable pub feedFault : Layout → Given → State → ℕ → Fault
+feedFault l g s room = orElse (tableFault l (g .markers) (g .phasors)) (sampleFault l (g .book) s room (g .number) (g .samples))
 
 -- the feed that is lent: two f64 a sample
 unfoldable pub feedOf : Given → Feed

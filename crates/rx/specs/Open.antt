@@ -37,10 +37,13 @@ openedState l start =
       hold = freshHold 8 (l .dead)
     }
 
--- rows 3 to 7, 15 and 16
+-- rows 15 and 16
+unfoldable pub startFault : ℕ → List Float → Fault
+startFault start book = firstFault ((no.Start, wrongStart start) ∷ (no.TurnBook, wrongBook book) ∷ [])
+
+-- rows 3 to 7, then 15 and 16
 unfoldable pub openFault : Layout → List ℕ → List Float → ℕ → List Float → Fault
-openFault l markers phasors start book =
-    orElse (tableFault l markers phasors) (firstFault ((no.Start, wrongStart start) ∷ (no.TurnBook, wrongBook book) ∷ []))
+openFault l markers phasors start book = orElse (tableFault l markers phasors) (startFault start book)
 
 -- what an opening answers
 unfoldable pub openOutcome : ℕ → ℕ → List ℕ → List Float → ℕ → List Float → Outcome State
