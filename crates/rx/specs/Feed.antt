@@ -56,7 +56,7 @@ feedOf g =
     record {
       tables = record { markers = g .markers; phasors = g .phasors };
       book = g .book;
-      samples = complexes (g .samples) 0 (length (g .samples) / 2)
+      samples = complexes (g .samples) 0 (length (g .samples) / 2);
     }
 
 -- what a feed answers: the number of the first fault, or what it releases

@@ -34,7 +34,7 @@ openedState l start =
       step = emptySpan (start + l .delay);
       power = emptySpan (start + l .delay);
       search = Fresh;
-      hold = freshHold 8 (l .dead)
+      hold = freshHold 8 (l .dead);
     }
 
 -- rows 15 and 16

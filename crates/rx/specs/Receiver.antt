@@ -46,7 +46,7 @@ opened l start =
       samples = emptyAt start;
       carriers = tabulate (λ c. emptyCarrier (start + l .delay)) (l .nc);
       search = Fresh;
-      hold = freshHold 8 (l .dead)
+      hold = freshHold 8 (l .dead);
     }
 
 -- the rows of the carriers' tracks
@@ -67,7 +67,7 @@ carrierAfter l book s e n c k =
     record {
       filtered = y;
       step = append (l .keep) (k .step) (window d e n);
-      power = append (l .keep) (k .power) (window (λ m. powerOf l (d m)) e n)
+      power = append (l .keep) (k .power) (window (λ m. powerOf l (d m)) e n);
     }
 
 -- where the search may begin: `lo` of `step`, of a filtered track from base on
@@ -123,12 +123,12 @@ fed l f r =
     let os = offersOf l (f .tables) cs (r .search) e in
     record {
       receiver =
-        record {
-          start = r .start;
-          samples = samplesAfter l f r;
-          carriers = cs;
-          search = placeAfter (r .search) p (searchCount l p e);
-          hold = holdAfter (r .hold) os
-        };
-      released = releases (r .hold) os
+          record {
+            start = r .start;
+            samples = samplesAfter l f r;
+            carriers = cs;
+            search = placeAfter (r .search) p (searchCount l p e);
+            hold = holdAfter (r .hold) os;
+          };
+      released = releases (r .hold) os;
     }

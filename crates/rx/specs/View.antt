@@ -14,7 +14,7 @@ carrierIn l s memory c =
     record {
       filtered = trackIn l memory (filteredPart c) (s .filtered);
       step = trackIn l memory (stepPart c) (s .step);
-      power = trackIn l memory (powerPart c) (s .power)
+      power = trackIn l memory (powerPart c) (s .power);
     }
 
 -- the receiver that a state has in a memory
@@ -25,5 +25,5 @@ view l s memory =
       samples = trackIn l memory samplesPart (s .samples);
       carriers = tabulate (carrierIn l s memory) (l .nc);
       search = s .search;
-      hold = s .hold
+      hold = s .hold;
     }

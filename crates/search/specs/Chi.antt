@@ -36,8 +36,8 @@ unfoldable pub cellSum : Layout → List Cell → (ℕ → ℕ → Complex) → 
 cellSum l cells row ref p =
     sumTo
     (λ k.
-      let x = getD cells k (cellAt 0 0) in
-      cmul (row (x .carrier) (cellPosition l p x)) (ref (x .carrier) (x .symbol)))
+    let x = getD cells k (cellAt 0 0) in
+    cmul (row (x .carrier) (cellPosition l p x)) (ref (x .carrier) (x .symbol)))
     (length cells)
 
 -- the pilot sum: steps over the marks

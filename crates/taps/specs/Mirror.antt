@@ -2,10 +2,9 @@
 use Prim.Native.Nat.{ℕ, _+_, _-_, _<_}
 use mathlib.Core.Path.{_≡_, ap, _∙_, sym}
 use mathlib.Core.Bool.{Bool}
-use mathlib.Core.List.{map}
 use lib.Dec.{T, eqb, eqb→eq}
 use lib.ListN.{getD, List·getD-map}
-use lib.Ieee.{Float, nan, binary64, ofBits}
+use lib.Ieee.{binary64, ofBits}
 use Rattle.level.specs.Level.{Pulse, rc, rrc1, rrc2}
 use Rattle.level.specs.Layout.{tapCount}
 use Rattle.level.specs.Tested.{below, below-at}

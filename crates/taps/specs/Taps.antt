@@ -1,7 +1,7 @@
 -- The taps of the three pulses (01, "Layouts"): a table of 227 numbers, printed once from `pulse_taps` of hf/psk.rs. Definitions only.
-use Prim.Native.Nat.{ℕ, suc, _+_, _-_}
+use Prim.Native.Nat.{ℕ, _+_}
 use mathlib.Core.Bool.{cond}
-use mathlib.Core.List.{List, [], _∷_, _++_, map}
+use mathlib.Core.List.{List, [], _∷_, map}
 use lib.Dec.{eqb}
 use lib.ListN.{getD}
 use lib.Ieee.{Float, nan, binary64, ofBits}

@@ -29,5 +29,5 @@ unfoldable pub append : ℕ → Track → List Complex → Track
 append keep t new =
     record {
       base = trimmedBase keep (t .base) (endOf t + length new);
-      values = drop (trimmedBase keep (t .base) (endOf t + length new) - t .base) (t .values ++ new)
+      values = drop (trimmedBase keep (t .base) (endOf t + length new) - t .base) (t .values ++ new);
     }

@@ -1,13 +1,13 @@
 -- `taps::phase_step` meets its contract: what stands with the Hz in the pairs left is what stands with it in all. Assumes nothing.
-use Prim.Native.Nat.{ℕ, suc, _+_, _-_, _≤_, _<_}
+use Prim.Native.Nat.{ℕ, _+_, _-_, _≤_, _<_}
 use mathlib.Core.Path.{_≡_, refl, sym, ap, _∙_}
-use mathlib.Core.List.{List, map}
+use mathlib.Core.List.{map}
 use native.Mathlib.Omega.{arith}
 use native.Mathlib.Numerals.{add-one}
 use borrow.Author.Tests.{eq-eqb, ne-eqb}
-use lib.ListN.{length, getD, drop, List·getD-map}
+use lib.ListN.{getD, drop, List·getD-map}
 use lib.Seq.{drop-cons}
-use lib.Ieee.{Float, nan, binary32, ofBits}
+use lib.Ieee.{nan, binary32, ofBits}
 use Rattle.taps.specs.PhaseSteps.{phaseSteps, stepBits, phaseStep}
 use Rattle.taps.proofs.phase_step.Statement.{statement}
 use Rattle.taps.proofs.phase_step.Tie as tie

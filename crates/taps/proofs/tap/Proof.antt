@@ -3,7 +3,6 @@ use Prim.Native.Nat.{ℕ, _+_, _<_}
 use mathlib.Core.Path.{_≡_}
 use native.Mathlib.Omega.{arith}
 use borrow.Author.Needs.{needs}
-use lib.Ieee.{ofBits, neg}
 use Rattle.level.specs.Level.{Pulse, rc, rrc1, rrc2}
 use Rattle.level.specs.Layout.{tapCount, pulseOf}
 use Rattle.taps.specs.Taps.{tapStart, tap}
@@ -23,13 +22,13 @@ tap-start-requires : tie.Need-tap-start-requires
 tap-start-requires c κs = search needs
 
 add-result : tie.Need-add-result
-add-result c = omega (arith, inside (c .before .args .taps) (c .before .args .j) (c .before .pre .0) (c .before .pre .1) (c .tap-start .ensures))
+add-result c = omega (arith, inside _ _ (c .before .pre .0) (c .before .pre .1) (c .tap-start .ensures))
 
 mul-result : tie.Need-mul-result
-mul-result c = omega (arith, inside (c .before .args .taps) (c .before .args .j) (c .before .pre .0) (c .before .pre .1) (c .tap-start .ensures))
+mul-result c = omega (arith, inside _ _ (c .before .pre .0) (c .before .pre .1) (c .tap-start .ensures))
 
 array-read-result : tie.Need-array-read-result
-array-read-result c = omega (arith, inside (c .before .args .taps) (c .before .args .j) (c .before .pre .0) (c .before .pre .1) (c .tap-start .ensures))
+array-read-result c = omega (arith, inside _ _ (c .before .pre .0) (c .before .pre .1) (c .tap-start .ensures))
 
 returns : tie.Need-returns
 unfolding tap
