@@ -36,7 +36,7 @@ equal-of : (a b : ℕ) → not (eqb a b) ≡ false → a ≡ b
 equal-of a b e = eqb-true a b (not-false (eqb a b) e)
 
 -- a layout is what its bandwidth and record choose
-layout-same : (l k : Layout) → IsLayout l → IsLayout k → otherCall l k ≡ false → k ≡ l
+pub layout-same : (l k : Layout) → IsLayout l → IsLayout k → otherCall l k ≡ false → k ≡ l
 unfolding otherCall
 layout-same l k i j e =
     let u = neither (not (eqb (l .bandwidth) (k .bandwidth))) (not (eqb (l .rec) (k .rec))) e in
@@ -47,11 +47,11 @@ layout-same l k i j e =
     cc
 
 -- the state's layout is not the call's
-other-wrong : (k : Layout) (room : ℕ) (s : State) → otherLayout k s ≡ true → wrongState k room s ≡ true
+pub other-wrong : (k : Layout) (room : ℕ) (s : State) → otherLayout k s ≡ true → wrongState k room s ≡ true
 unfolding wrongState
 other-wrong k room s e = rw (e, or-true (not (eqb room (2 * memoryLength k))))
 
-other-is : (l k : Layout) (s : State) → s .bandwidth ≡ l .bandwidth → s .rec ≡ l .rec → otherLayout k s ≡ otherCall l k
+pub other-is : (l k : Layout) (s : State) → s .bandwidth ≡ l .bandwidth → s .rec ≡ l .rec → otherLayout k s ≡ otherCall l k
 unfolding otherLayout otherCall
 other-is l k s p q = rw (p, q)
 
@@ -70,11 +70,11 @@ fault-is l k g room s e = rw e
 met-clear {ℓ} : {X : Type ℓ} (r : Refusal) → Met r ≡ Clear → X
 met-clear r e = absurd (let z : _≡_ {A = ℕ} 0 1 = cc in omega arith)
 
-or-else-clear : (f g : Fault) → orElse f g ≡ Clear → g ≡ Clear
+pub or-else-clear : (f g : Fault) → orElse f g ≡ Clear → g ≡ Clear
 or-else-clear Clear g e = e
 or-else-clear (Met r) g e = met-clear r e
 
-first-clear : (r : Refusal) (b : Bool) (rest : Fault) → firstOf r b rest ≡ Clear → (b ≡ false) × (rest ≡ Clear)
+pub first-clear : (r : Refusal) (b : Bool) (rest : Fault) → firstOf r b rest ≡ Clear → (b ≡ false) × (rest ≡ Clear)
 first-clear r false rest e = (refl, e)
 first-clear r true rest e = met-clear r e
 
@@ -107,7 +107,7 @@ pub record Fits (l : Layout) (e : ℕ) (g : Given) (f : Feed) : Type 0 where
   pub few : length (f .samples) ≤ 4000
   pub soon : e + length (f .samples) ≤ 2 ^ 48
 
-refused-answered {ℓ} : {A : Type 0} {X : Type ℓ} (n : ℕ) (a : A) → refused n ≡ answered a → X
+pub refused-answered {ℓ} : {A : Type 0} {X : Type ℓ} (n : ℕ) (a : A) → refused n ≡ answered a → X
 refused-answered n a e = absurd (let z : _≡_ {A = ℕ} 0 1 = cc in omega arith)
 
 module _ (l : Layout) (i : IsLayout l) (g : Given) where

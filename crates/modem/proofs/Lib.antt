@@ -6,3 +6,5 @@ pub mod Reached
 pub mod Brought
 pub mod Lists
 pub mod Detections
+pub mod Refused
+pub mod Opened
