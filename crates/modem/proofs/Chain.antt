@@ -12,6 +12,7 @@ use Rattle.level.specs.Rows.{IsLayout}
 use Rattle.level.specs.Sized.{Sized, sized}
 use Rattle.track.specs.Window.{window, length-window}
 use Rattle.track.specs.Track.{Track, valueAt, trimmedBase, append}
+use Rattle.track.specs.Trims.{Trimmed, trimmed}
 use Rattle.filter.specs.Filter.{filteredAt, stepAt, powerOf, filteredEnd}
 use Rattle.hold.specs.declared.Hold.{Hold}
 use Rattle.hold.specs.Releases.{holdAfter, releases}
@@ -20,8 +21,8 @@ use Rattle.search.specs.Search.{reach, searchCount, offersFrom}
 use Rattle.rx.specs.declared.SearchPlace.{SearchPlace}
 use Rattle.rx.specs.Receiver as rx
 use Rattle.rx.specs.Receiver.{Carrier, Receiver, emptyCarrier, carrierOf, carrierAfter, searchFrom, placeAfter, Feed, Fed, samplesAfter, endBefore, endAfter, carriersAfter, fed}
-use Rattle.rx.specs.Numbers.{Trimmed, trimmed, keep-delay, end-grows, end-grows-by, search-kept}
-use Rattle.rx.specs.After.{base-below}
+use Rattle.rx.specs.Numbers.{keep-delay, end-grows, end-grows-by, search-kept}
+use Rattle.rx.specs.After.{base-below, samples-stay}
 use Rattle.modem.specs.Ideal.{filteredRow, stepRow, powerRow, chiRow, part, carrierPart, receiverOf}
 use Rattle.modem.proofs.Window.{part-end, part-value, part-append}
 use Rattle.modem.proofs.Local.{filter-same, step-same, chi-same, offers-same}
@@ -41,9 +42,8 @@ kept-on keep a fb fe e r h k l = omega arith
 kept-near : (keep a fe n r m : ℕ) → 4032 ≤ keep → n ≤ 4000 → fe ≤ m → r ≤ max a (fe + n - keep) → r ≤ max a (m - 32)
 kept-near keep a fe n r m h k l j = omega arith
 
-pub sample-stays : (keep d start sb se k r : ℕ) → 4032 + 2 * d ≤ keep → k ≤ 4000 → sb + d ≤ max (start + d) (se - d) → r ≤ max sb (se + k - keep)
-    → r + d ≤ max (start + d) (se - d)
-sample-stays keep d start sb se k r h j l m = omega arith
+trimmed-order : (keep b e r : ℕ) → b ≤ e → r ≤ max b (e - keep) → r ≤ e
+trimmed-order keep b e r h k = omega arith
 
 new-end : (a d se k : ℕ) → max a (se - d) + (max a (se + k - d) - max a (se - d)) + d ≤ max (max a (se - d) + d) (se + k)
 new-end a d se k = omega arith
@@ -112,7 +112,7 @@ module _ (l : Layout) (start : ℕ) (x : ℕ → Complex) (b : ℕ → Feed) whe
         let t = base-there in
         step-same fb′ (start + l .delay) _ (filteredRow l x b c) m (omega arith)
         (kept-near (l .keep) (start + l .delay) fe n fb′ m (omega arith) (w .few) h
-        (kept-on (l .keep) (start + l .delay) fb fe (fe + n) fb′ (omega arith) (w .kept) (t .far)))
+        (kept-on (l .keep) (start + l .delay) fb fe (fe + n) fb′ (omega arith) (w .kept) (t .most)))
         (λ i p q. part-value (filteredRow l x b c) fb′ (fe + n) i p (omega arith))
 
     carrier-fed : carrierAfter l (f .book) (part x sb se) fe n c (carrierPart l start x b fb fe c) ≡ carrierPart l start x b fb′ (fe + n) c
@@ -154,11 +154,11 @@ module _ (l : Layout) (start : ℕ) (x : ℕ → Complex) (b : ℕ → Feed) whe
       let d : Trimmed (l .keep) fb (filteredEnd l start (se + k)) (trimmedBase (l .keep) fb (filteredEnd l start (se + k))) =
       trimmed (l .keep) fb (filteredEnd l start (se + k)) (le-trans (w .filtered-order) g) in
       record {
-        sample-order = c .high;
-        sample-kept = le-trans (sample-stays (l .keep) (l .delay) start sb se k _ (keep-delay l z) h (w .sample-kept) (c .far)) g;
-        filtered-from = le-trans (w .filtered-from) (d .low);
-        filtered-order = d .high;
-        filtered-kept = kept-on (l .keep) (start + l .delay) fb (filteredEnd l start se) _ _ g (w .filtered-kept) (d .far);
+        sample-order = trimmed-order (l .keep) sb (se + k) _ (omega (arith, w .sample-order)) (c .most);
+        sample-kept = le-trans (samples-stay (l .keep) (l .delay) start sb se k _ (keep-delay l z) h (w .sample-kept) (c .most)) g;
+        filtered-from = le-trans (w .filtered-from) (d .least);
+        filtered-order = trimmed-order (l .keep) fb (filteredEnd l start (se + k)) _ (le-trans (w .filtered-order) g) (d .most);
+        filtered-kept = kept-on (l .keep) (start + l .delay) fb (filteredEnd l start se) _ _ g (w .filtered-kept) (d .most);
       }
 
   news-of : Sized l → (f : Feed) (sb se fb k : ℕ) → k ≤ 4000 → Placed l start sb se fb → ((i : ℕ) → se ≤ i → i < se + k → b i ≡ f)
@@ -170,7 +170,7 @@ module _ (l : Layout) (start : ℕ) (x : ℕ → Complex) (b : ℕ → Feed) whe
         after-start = w .filtered-from;
         order = w .filtered-order;
         kept = w .filtered-kept;
-        samples-from = sample-stays (l .keep) (l .delay) start sb se k _ (keep-delay l z) h (w .sample-kept) (c .far);
+        samples-from = samples-stay (l .keep) (l .delay) start sb se k _ (keep-delay l z) h (w .sample-kept) (c .most);
         samples-to = new-end (start + l .delay) (l .delay) se k;
         few = new-few _ _ k g h;
         brought = λ m p q. e (m + l .delay) (new-low (start + l .delay) (l .delay) se m p) (new-high (start + l .delay) (l .delay) se k m p q);

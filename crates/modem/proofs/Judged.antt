@@ -1,13 +1,13 @@
 -- In a sound state with a memory of the right length a feed is judged by what it is given alone: of 17 only the call's own layout is left. Assumes nothing.
 use Prim.Native.Nat.{ℕ, _+_, _*_, _/_, _%_, _^_, _≤_}
 use mathlib.Core.Path.{_≡_, refl, sym, _∙_}
-use mathlib.Core.Bool.{Bool, true, false, not, _||_, or-true}
+use mathlib.Core.Bool.{Bool, true, false, not, or-true}
 use mathlib.Core.List.{List}
 use native.Mathlib.Omega.{arith}
 use lib.Dec.{ltb, eqb}
 use lib.ListN.{length}
 use lib.Ieee.{Float}
-use borrow.Author.Tests.{ltb-false, eqb-true, not-false}
+use borrow.Author.Tests.{ltb-false}
 use Rattle.refusal.specs.declared.Refusal.{Refusal}
 use Rattle.refusal.specs.declared.Refusal.the-variants as no
 use Rattle.refusal.specs.declared.Fault.{Fault}
@@ -25,15 +25,8 @@ use Rattle.rx.specs.Receiver.{Feed, fed}
 use Rattle.rx.specs.View.{view}
 use Rattle.rx.specs.Conditions.{spanEnd, otherLayout, wrongBook, wrongState, wrongSamples, wrongNumber}
 use Rattle.rx.specs.Feed.{Given, sampleFault, feedFault, feedOf, feedOutcome}
-use Rattle.rx.specs.Sound.{Sound, not-wrong}
+use Rattle.rx.specs.Sound.{neither, equal-of, Sound, not-wrong}
 use Rattle.modem.specs.Ideal.{otherCall, wrongFirst, inputFault, judgement}
-
-neither : (a b : Bool) → (a || b) ≡ false → (a ≡ false) × (b ≡ false)
-neither false b e = (refl, e)
-neither true b e = (e, absurd (let z : _≡_ {A = ℕ} 0 1 = cc in omega arith))
-
-equal-of : (a b : ℕ) → not (eqb a b) ≡ false → a ≡ b
-equal-of a b e = eqb-true a b (not-false (eqb a b) e)
 
 -- a layout is what its bandwidth and record choose
 pub layout-same : (l k : Layout) → IsLayout l → IsLayout k → otherCall l k ≡ false → k ≡ l

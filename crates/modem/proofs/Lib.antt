@@ -5,6 +5,7 @@ pub mod Judged
 pub mod Reached
 pub mod Brought
 pub mod Lists
+pub mod Fresh
 pub mod Detections
 pub mod Refused
 pub mod Opened

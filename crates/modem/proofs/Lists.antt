@@ -27,6 +27,7 @@ use Rattle.rx.specs.Receiver.{Feed, fed}
 use Rattle.rx.specs.View.{view}
 use Rattle.rx.specs.Conditions.{spanEnd}
 use Rattle.rx.specs.Feed.{Given, FedBy}
+use Rattle.rx.specs.Sound.{count-back}
 use Rattle.rx.specs.Numbers.{placeIn, end-grows}
 use Rattle.modem.specs.Ideal.{judgement, endOn, onward, accepted, verdict, verdicts, joined}
 use Rattle.modem.specs.Calls.{Calls, none, next, detections, answersOf}
@@ -38,9 +39,6 @@ use Rattle.modem.proofs.Brought.{Agrees}
 -- the positions searched up to fe, and then up to e
 count-on : (r p fe e : ℕ) → fe ≤ e → (e - r - p + 1) / 2 ≡ (fe - r - p + 1) / 2 + (e - r - (p + 2 * ((fe - r - p + 1) / 2)) + 1) / 2
 count-on r p fe e h = omega arith
-
-count-none : (r p fe : ℕ) → fe ≤ p + r → (fe - r - p + 1) / 2 ≡ 0
-count-none r p fe h = omega arith
 
 released-first : (r : Release) (ds : List Detection) → released r ds ≡ released r [] ++ ds
 unfolding released
@@ -70,7 +68,7 @@ module _ (l : Layout) (i : IsLayout l) (start : ℕ) (x : ℕ → Complex) (b : 
   unfolding accepted verdicts joined detections answersOf offersFrom tabulate holdAfter releases
   led-none s memory w room a =
       let e : searchCount l (placeIn s) (filteredEnd l start (spanEnd (s .samples) + 0)) ≡ 0 =
-      rw add-zero (count-none (reach l) (placeIn s) (filteredEnd l start (spanEnd (s .samples))) (rw (filtered-end l start x b s memory w) at (w .sound .searched))) in
+      rw add-zero (count-back (filteredEnd l start (spanEnd (s .samples))) (reach l) (placeIn s) (rw (filtered-end l start x b s memory w) at (w .sound .searched))) in
       record { reached = w; room = room; ends = sym (add-zero (spanEnd (s .samples))); hold = rw e; released = rw e; answers = refl }
 
   -- two runs of offers

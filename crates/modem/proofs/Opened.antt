@@ -1,9 +1,7 @@
 -- An opening that is answered gives the fresh state of the layout chosen, at a start of at most 2^40. Assumes nothing.
-use Prim.Native.Nat.{ℕ, _^_, _≤_}
+use Prim.Native.Nat.{ℕ, _^_}
 use mathlib.Core.Path.{_≡_, refl, sym}
-use mathlib.Core.Bool.{Bool, true, false}
 use mathlib.Core.List.{List}
-use native.Mathlib.Omega.{arith}
 use lib.Ieee.{Float}
 use borrow.Author.Tests.{ltb-false}
 use Rattle.refusal.specs.declared.Refusal.the-variants as no
@@ -12,19 +10,13 @@ use Rattle.refusal.specs.declared.Fault.the-variants.{Clear, Met}
 use Rattle.refusal.specs.Outcome.{Outcome, refused, answered, andThen, judged}
 use Rattle.level.specs.declared.Layout.{Layout}
 use Rattle.level.specs.Layout.{chosen}
-use Rattle.level.specs.Rows.{IsLayout, is-layout}
+use Rattle.level.specs.Rows.{is-layout}
 use Rattle.dat.specs.Tables.{tableFault}
 use Rattle.rx.specs.declared.State.{State}
-use Rattle.rx.specs.Conditions.{wrongStart, wrongBook}
+use Rattle.rx.specs.Conditions.{wrongStart}
 use Rattle.rx.specs.Open.{openedState, startFault, openFault, openOutcome}
+use Rattle.modem.specs.Follows.{OpenedAs}
 use Rattle.modem.proofs.Judged.{or-else-clear, first-clear, refused-answered}
-
-pub record OpenedAs (hz rec start : ℕ) (s : State) : Type 0 where
-  pub layout : Layout
-  pub is-one : IsLayout layout
-  pub chosen-is : chosen hz rec ≡ answered layout
-  pub state : s ≡ openedState layout start
-  pub early : start ≤ 2 ^ 40
 
 pub opened-as : (hz rec : ℕ) (markers : List ℕ) (phasors : List Float) (start : ℕ) (book : List Float) (s : State)
     → openOutcome hz rec markers phasors start book ≡ answered s → OpenedAs hz rec start s

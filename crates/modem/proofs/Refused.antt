@@ -2,12 +2,11 @@
 use Prim.Native.Nat.{ℕ, _*_}
 use mathlib.Core.Path.{_≡_, refl, sym, ap, ap₂, _∙_}
 use mathlib.Core.Bool.{Bool, true, false}
-use mathlib.Core.List.{List, [], _∷_, map}
+use mathlib.Core.List.{List, [], _∷_}
 use native.Mathlib.Omega.{arith}
 use lib.ListN.{length}
 use lib.Ieee.{Float}
 use borrow.Author.Tests.{ne-eqb}
-use Rattle.refusal.specs.declared.Refusal.{Refusal}
 use Rattle.refusal.specs.declared.Refusal.the-variants as no
 use Rattle.refusal.specs.declared.Fault.{Fault}
 use Rattle.refusal.specs.declared.Fault.the-variants.{Clear, Met}
@@ -17,17 +16,16 @@ use Rattle.level.specs.Lengths.{memoryLength}
 use Rattle.level.specs.Layout.{chosen}
 use Rattle.level.specs.Rows.{IsLayout, is-layout}
 use Rattle.dat.specs.Tables.{tableFault}
-use Rattle.hold.specs.History.{Detection}
 use Rattle.rx.specs.declared.State.{State}
 use Rattle.rx.specs.declared.FeedAnswer.{FeedAnswer}
 use Rattle.rx.specs.declared.FeedAnswer.the-variants.{Accepted, Refused}
 use Rattle.rx.specs.Receiver.{fed}
 use Rattle.rx.specs.View.{view}
 use Rattle.rx.specs.Conditions.{wrongBook, wrongState}
-use Rattle.rx.specs.Feed.{Given, sampleFault, feedFault, feedOf, feedOutcome, outcome, FedBy}
+use Rattle.rx.specs.Feed.{Given, sampleFault, feedFault, feedOf, feedOutcome, FedBy}
 use Rattle.modem.specs.Ideal.{otherCall, verdict}
 use Rattle.modem.specs.Calls.{Calls, none, next, detections, answersOf}
-use Rattle.modem.specs.Follows.{withoutRoom}
+use Rattle.modem.specs.Follows.{withoutRoom, AllRefused}
 use Rattle.modem.proofs.Judged.{layout-same, other-wrong, other-is}
 
 module _ (l : Layout) (i : IsLayout l) (s : State) (hz : s .bandwidth ≡ l .bandwidth) (rc : s .rec ≡ l .rec) where
@@ -72,13 +70,6 @@ never-answered g u e = go (chosen (g .bandwidth) (g .rec)) e
         → andThen c (λ k. judged (orElse (tableFault k (g .markers) (g .phasors)) (firstFault ((no.TurnBook, wrongBook (g .book)) ∷ (no.State, true) ∷ []))) (answered tt)) ≡ answered u → ⊥
     go (refused n) e = let z : _≡_ {A = ℕ} 0 1 = cc in omega arith
     go (answered k) e = judged-met (tableFault k (g .markers) (g .phasors)) (wrongBook (g .book)) e
-
--- what calls leave that are all refused
-pub record AllRefused (s : State) (memory : List Float) (gs : List Given) (s′ : State) (memory′ : List Float) (rs : List FeedAnswer) : Type 0 where
-  pub state : s′ ≡ s
-  pub memory-is : memory′ ≡ memory
-  pub answers : answersOf rs ≡ map withoutRoom gs
-  pub released : detections rs ≡ []
 
 module _ (l : Layout) (i : IsLayout l) where
   refused-next : (s s₁ s′ : State) (m m₁ m′ : List Float) (g : Given) (gs : List Given) (rs : List FeedAnswer) → verdict (feedOutcome g s m) ≡ withoutRoom g

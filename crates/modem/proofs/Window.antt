@@ -7,7 +7,7 @@ use lib.ListN.{drop}
 use Rattle.complex.specs.declared.Complex.{Complex}
 use Rattle.track.specs.Window.{window, length-window, getD-window, window-ext, window-append, window-drop}
 use Rattle.track.specs.Track.{endOf, valueAt, trimmedBase, append}
-use Rattle.rx.specs.Numbers.{Trimmed, trimmed}
+use Rattle.track.specs.Trims.{Trimmed, trimmed}
 use Rattle.modem.specs.Ideal.{part}
 
 window-join : (f : ℕ → Complex) (b e n : ℕ) → b ≤ e → window f b (e - b) ++ window f e n ≡ window f b (e + n - b)
@@ -40,4 +40,4 @@ unfolding append part
 part-append keep f g b e n h s =
     let p : b + (e - b) + n ≡ e + n = omega arith in
     let c : Trimmed keep b (e + n) (trimmedBase keep b (e + n)) = trimmed keep b (e + n) (omega arith) in
-    rw (length-window, length-window, p, window-ext g f e n s, window-join f b e n h, window-rest f b (trimmedBase keep b (e + n)) (e + n) (c .low) (c .high))
+    rw (length-window, length-window, p, window-ext g f e n s, window-join f b e n h, window-rest f b (trimmedBase keep b (e + n)) (e + n) (c .least) (omega arith))
