@@ -2,17 +2,17 @@
 use Prim.Native.Nat.{ℕ, _+_, _*_, _/_, _%_, _^_, _≤_}
 use mathlib.Core.Path.{_≡_, refl, sym, _∙_}
 use mathlib.Core.Bool.{Bool, true, false, not, or-true}
-use mathlib.Core.List.{List}
+use mathlib.Core.List.{List, [], _∷_}
 use native.Mathlib.Omega.{arith}
 use lib.Dec.{ltb, eqb}
 use lib.ListN.{length}
 use lib.Ieee.{Float}
-use borrow.Author.Tests.{ltb-false}
+use borrow.Author.Tests.{ltb-false, eq-eqb}
 use Rattle.refusal.specs.declared.Refusal.{Refusal}
 use Rattle.refusal.specs.declared.Refusal.the-variants as no
 use Rattle.refusal.specs.declared.Fault.{Fault}
 use Rattle.refusal.specs.declared.Fault.the-variants.{Clear, Met}
-use Rattle.refusal.specs.Outcome.{Outcome, refused, answered, andThen, firstOf, orElse, judged}
+use Rattle.refusal.specs.Outcome.{Outcome, refused, answered, andThen, firstOf, orElse, judged, firstFault}
 use Rattle.complex.specs.Pairs.{complexes-length}
 use Rattle.level.specs.declared.Layout.{Layout}
 use Rattle.level.specs.Lengths.{memoryLength}
@@ -23,7 +23,7 @@ use Rattle.hold.specs.History.{Detection}
 use Rattle.rx.specs.declared.State.{State}
 use Rattle.rx.specs.Receiver.{Feed, fed}
 use Rattle.rx.specs.View.{view}
-use Rattle.rx.specs.Conditions.{spanEnd, otherLayout, wrongBook, wrongState, wrongSamples, wrongNumber}
+use Rattle.rx.specs.Conditions.{spanEnd, otherLayout, wrongBook, wrongState, wrongSamples, wrongNumber, wrongParts}
 use Rattle.rx.specs.Feed.{Given, sampleFault, feedFault, feedOf, feedOutcome}
 use Rattle.rx.specs.Sound.{neither, equal-of, Sound, not-wrong}
 use Rattle.modem.specs.Ideal.{otherCall, wrongFirst, inputFault, judgement}
@@ -142,3 +142,20 @@ module _ (l : Layout) (i : IsLayout l) (g : Given) where
         go (answered k) c =
             let j : IsLayout k = is-layout (g .bandwidth) (g .rec) k c in
             rw (fault-is l k g (length memory) s (wrong-is l k i j (length memory) s w room)) (with-fault k c (inputFault l (spanEnd (s .samples)) g k) refl)
+
+-- A call of the receiver's own layout never meets 17: what is left are the rows of what it is given.
+pub own-call : (l : Layout) → IsLayout l → (e : ℕ) (g : Given) → g .bandwidth ≡ l .bandwidth → g .rec ≡ l .rec
+    → judgement l e g
+    ≡ judged
+    (orElse (tableFault l (g .markers) (g .phasors))
+    (firstFault
+    ((no.TurnBook, wrongBook (g .book)) ∷
+    (no.SampleCount, wrongSamples (length (g .samples))) ∷
+    (no.SampleNumber, wrongFirst e (g .number) (length (g .samples) / 2)) ∷
+    (no.SampleSize, wrongParts (g .samples)) ∷
+    [])))
+    (answered (feedOf g))
+unfolding judgement inputFault otherCall
+own-call l i e g p q =
+    let c : chosen (g .bandwidth) (g .rec) ≡ answered l = rw (p, q) i in
+    rw (c, eq-eqb (l .bandwidth) (l .bandwidth) refl, eq-eqb (l .rec) (l .rec) refl)

@@ -66,6 +66,7 @@ never-answered g u e = go (chosen (g .bandwidth) (g .rec)) e
     judged-met (Met r) b e = let z : _≡_ {A = ℕ} 0 1 = cc in omega arith
     judged-met Clear true e = let z : _≡_ {A = ℕ} 0 1 = cc in omega arith
     judged-met Clear false e = let z : _≡_ {A = ℕ} 0 1 = cc in omega arith
+
     go : (c : Outcome Layout)
         → andThen c (λ k. judged (orElse (tableFault k (g .markers) (g .phasors)) (firstFault ((no.TurnBook, wrongBook (g .book)) ∷ (no.State, true) ∷ []))) (answered tt)) ≡ answered u → ⊥
     go (refused n) e = let z : _≡_ {A = ℕ} 0 1 = cc in omega arith
