@@ -15,6 +15,7 @@ use Rattle.level.specs.Rows.{IsLayout}
 use Rattle.level.specs.Sized.{Sized, sized}
 use Rattle.track.specs.declared.Span.{Span}
 use Rattle.track.specs.Track.{Track, endOf, trimmedBase}
+use Rattle.track.specs.Trims.{Trimmed, trimmed}
 use Rattle.track.specs.Memory.{filteredPart, stepPart, powerPart, trackIn}
 use Rattle.hold.specs.declared.Held.{Held}
 use Rattle.hold.specs.declared.Held.the-variants as held
@@ -35,7 +36,7 @@ use Rattle.rx.specs.Open.{openedState}
 use Rattle.rx.specs.Conditions.{spanEnd}
 use Rattle.rx.specs.Sound.{Waits, PlaceNear, HeldNear, BlockNear, Sound}
 use Rattle.rx.specs.Numbers as numbers
-use Rattle.rx.specs.Numbers.{Trimmed, trimmed, endWith, baseWith, placeIn, countWith, chiAfter}
+use Rattle.rx.specs.Numbers.{endWith, baseWith, placeIn, countWith, chiAfter}
 
 -- ---- the hold along offers
 -- before an offer at q: what is held is not past q
@@ -217,7 +218,8 @@ all-offered e r p n h = omega arith
 end-near : (a d fe se k : ℕ) → fe ≡ max a (se - d) → fe ≤ 2 ^ 49 → se + k ≤ 2 ^ 48 → max a (se + k - d) ≤ 2 ^ 49
 end-near a d fe se k h₁ h₂ h₃ = omega arith
 
-samples-stay : (keep d start sb se k r : ℕ) → 4032 + 2 * d ≤ keep → k ≤ 4000 → sb + d ≤ max (start + d) (se - d) → r ≤ max sb (se + k - keep) → r + d ≤ max (start + d) (se - d)
+-- no trim of the samples passes what the next filtered value needs
+pub samples-stay : (keep d start sb se k r : ℕ) → 4032 + 2 * d ≤ keep → k ≤ 4000 → sb + d ≤ max (start + d) (se - d) → r ≤ max sb (se + k - keep) → r + d ≤ max (start + d) (se - d)
 samples-stay keep d start sb se k r h₁ h₂ h₃ h₄ = omega arith
 
 place-up : (x y : ℕ) → x ≤ max x y + max x y % 2
@@ -226,7 +228,8 @@ place-up x y = omega arith
 base-up : (x y : ℕ) → y ≤ max x y + max x y % 2
 base-up x y = omega arith
 
-base-below : (s : SearchPlace) (b p : ℕ) → searchFrom s b ≡ p → b + 32 ≤ p
+-- a search begins 32 past the base or later
+pub base-below : (s : SearchPlace) (b p : ℕ) → searchFrom s b ≡ p → b + 32 ≤ p
 base-below Fresh b p h = let u = base-up (b + 32) (b + 32) in omega arith
 base-below (At q) b p h = let u = base-up (q .0) (b + 32) in omega arith
 
@@ -307,7 +310,7 @@ module _ (l : Layout) (z : Sized l) (s : State) (w : Sound l s) (f : Feed) (chi 
         held-near = w .held-near;
         block-near = w .block-near;
         searched = rw place-then (omega (arith, all-offered fe′ (reach l) (placeIn s) 0 e));
-        waits = waits-on (s .search) (s .filtered .base .0) fb′ (s .hold .best) (numbers.below-place (l .keep) (reach l) (s .filtered .base .0) (spanEnd (s .filtered)) fe′ fb′ (placeIn s) (numbers.keep-reach l z) (omega arith) (w .searched) (filtered-trimmed .far)) (w .waits);
+        waits = waits-on (s .search) (s .filtered .base .0) fb′ (s .hold .best) (numbers.below-place (l .keep) (reach l) (s .filtered .base .0) (spanEnd (s .filtered)) fe′ fb′ (placeIn s) (numbers.keep-reach l z) (omega arith) (w .searched) (filtered-trimmed .most)) (w .waits);
       }
   found (suc n) e =
       let u : placeIn s + 2 * n + reach l < fe′ = last-offer fe′ (reach l) (placeIn s) n e in
@@ -358,13 +361,13 @@ module _ (l : Layout) (z : Sized l) (s : State) (w : Sound l s) (f : Feed) (chi 
             rw (e₂)
             (le-trans
             (samples-stay (l .keep) (l .delay) (s .start .0) (s .samples .base .0) (spanEnd (s .samples)) (length (f .samples)) (s′ .samples .base .0) (numbers.keep-delay l z) few
-            (rw (w .filtered-end) at (w .samples-from)) (a .far))
+            (rw (w .filtered-end) at (w .samples-from)) (a .most))
             (numbers.end-grows (s .start .0 + l .delay) (l .delay) (spanEnd (s .samples)) (length (f .samples))));
         searched = rw (e₂, b₂) (g .searched);
         waits = rw b₂ (g .waits);
       }
     where
-      short-of : (b n e k : ℕ) → b + n ≡ e → e - b ≤ k → n ≤ k
+      short-of : (b n e k : ℕ) → b + n ≡ e → e ≤ b + k → n ≤ k
       short-of b n e k p q = omega arith
 
       same-len : (a n b m : ℕ) → a ≡ b → a + n ≡ b + m → n ≡ m

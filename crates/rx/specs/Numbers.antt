@@ -1,13 +1,10 @@
 -- The numbers of an accepted feed of a sound state: where its tracks then begin and end, and which positions it searches. Assumes nothing.
 use Prim.Native.Nat.{ℕ, _+_, _-_, _*_, _%_, _≤_, _<_, max}
 use mathlib.Core.Path.{_≡_, refl, sym, ap, ap₂, _∙_}
-use mathlib.Core.Bool.{Bool, true, false, cond}
 use mathlib.Core.List.{List}
 use native.Mathlib.Omega.{arith}
-use lib.Dec.{ltb}
 use lib.ListN.{length, length-append, length-drop}
 use lib.Ieee.{Float}
-use borrow.Author.Tests.{ltb-true, ltb-false, le-ltb}
 use Rattle.complex.specs.declared.Complex.{Complex}
 use Rattle.complex.specs.Lists.{getD-tabulate}
 use Rattle.complex.specs.Pairs.{complexes-length}
@@ -16,6 +13,7 @@ use Rattle.level.specs.Sized.{Sized}
 use Rattle.track.specs.declared.Span.{Span}
 use Rattle.track.specs.Window.{window, length-window}
 use Rattle.track.specs.Track.{Track, endOf, trimmedBase, append}
+use Rattle.track.specs.Trims.{Trimmed, trimmed, base-kept}
 use Rattle.track.specs.Memory.{filteredPart, stepPart, powerPart, trackIn}
 use Rattle.filter.specs.Filter.{filteredEnd}
 use Rattle.hold.specs.Releases.{holdAfter, releases}
@@ -28,25 +26,6 @@ use Rattle.rx.specs.Receiver.{Carrier, Receiver, emptyCarrier, carrierOf
 use Rattle.rx.specs.View.{carrierIn, view}
 use Rattle.rx.specs.Conditions.{spanEnd}
 use Rattle.rx.specs.Sound.{Sound}
-
--- ---- where a trim falls
-pub record Trimmed (keep b e r : ℕ) : Type 0 where
-  pub low : b ≤ r
-  pub high : r ≤ e
-  pub far : r ≤ max b (e - keep)
-  pub short : e - r ≤ 2 * keep
-
-pub trimmed : (keep b e : ℕ) → b ≤ e → Trimmed keep b e (trimmedBase keep b e)
-unfolding trimmedBase
-trimmed keep b e h = go (ltb (2 * keep) (e - b)) refl
-  where
-    go : (t : Bool) → ltb (2 * keep) (e - b) ≡ t → Trimmed keep b e (cond t (e - keep) b)
-    go true p = let q : 2 * keep < e - b = ltb-true _ _ p in omega arith
-    go false p = let q : e - b ≤ 2 * keep = ltb-false _ _ p in omega arith
-
-pub untrimmed : (keep b e : ℕ) → e - b ≤ 2 * keep → trimmedBase keep b e ≡ b
-unfolding trimmedBase
-untrimmed keep b e h = rw (le-ltb (2 * keep) (e - b) h)
 
 pub append-end : (keep : ℕ) (t : Track) (new : List Complex) → endOf (append keep t new) ≡ endOf t + length new
 unfolding append
@@ -94,10 +73,10 @@ fresh-short keep r fb fe fe′ h₁ h₂ h₃ = omega arith
 
 pub search-kept : (l : Layout) → Sized l → (s : SearchPlace) (fb fe fe′ : ℕ) → fb ≤ fe′ → fe′ ≤ fe + 4000 → fe ≤ searchFrom s fb + reach l
     → searchFrom s (trimmedBase (l .keep) fb fe′) ≡ searchFrom s fb
-search-kept l z Fresh fb fe fe′ h₀ h₁ h₂ = rw (untrimmed (l .keep) fb fe′ (fresh-short (l .keep) (reach l) fb fe fe′ (keep-reach l z) h₁ h₂))
+search-kept l z Fresh fb fe fe′ h₀ h₁ h₂ = rw (base-kept (l .keep) fb fe′ (fresh-short (l .keep) (reach l) fb fe fe′ (keep-reach l z) h₁ h₂))
 search-kept l z (At q) fb fe fe′ h₀ h₁ h₂ =
     let c : Trimmed (l .keep) fb fe′ (trimmedBase (l .keep) fb fe′) = trimmed (l .keep) fb fe′ h₀ in
-    let u = place-between (q .0) fb (trimmedBase (l .keep) fb fe′) (c .low) (below-place (l .keep) (reach l) fb fe fe′ _ (searchFrom (At q) fb) (keep-reach l z) h₁ h₂ (c .far)) in
+    let u = place-between (q .0) fb (trimmedBase (l .keep) fb fe′) (c .least) (below-place (l .keep) (reach l) fb fe fe′ _ (searchFrom (At q) fb) (keep-reach l z) h₁ h₂ (c .most)) in
     even-between (max (q .0) (fb + 32)) (max (q .0) (trimmedBase (l .keep) fb fe′ + 32)) (u .0) (u .1)
 
 -- ---- what a view shows of its state's numbers

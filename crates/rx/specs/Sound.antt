@@ -62,7 +62,7 @@ pub record Sound (l : Layout) (s : State) : Type 0 where
   pub waits : Waits (s .search) (s .filtered .base .0) (s .hold .best)
 
 -- ---- tests in a row, none of which is met
-neither : (a b : Bool) → (a || b) ≡ false → (a ≡ false) × (b ≡ false)
+pub neither : (a b : Bool) → (a || b) ≡ false → (a ≡ false) × (b ≡ false)
 neither false b e = (refl, e)
 neither true b e = (e, absurd (let z : _≡_ {A = ℕ} 0 1 = cc in omega arith))
 
@@ -84,7 +84,7 @@ none-of-6 a b c d f g e =
     let e₁ = none-of-4 a b c d (e₂ .0) in
     (e₁ .0, e₁ .1, e₁ .2, e₁ .3, e₂ .1, e₃ .1)
 
-equal-of : (a b : ℕ) → not (eqb a b) ≡ false → a ≡ b
+pub equal-of : (a b : ℕ) → not (eqb a b) ≡ false → a ≡ b
 equal-of a b e = eqb-true a b (not-false (eqb a b) e)
 
 not-unequal : (a b : ℕ) → a ≡ b → not (eqb a b) ≡ false
@@ -143,7 +143,7 @@ spans-back a b p q = rw (p, q, eq-eqb (a .base .0) (a .base .0) refl, eq-eqb (a 
 count-none : (e r p : ℕ) → (e - r - p + 1) / 2 ≡ 0 → e ≤ p + r
 count-none e r p h = omega arith
 
-count-back : (e r p : ℕ) → e ≤ p + r → (e - r - p + 1) / 2 ≡ 0
+pub count-back : (e r p : ℕ) → e ≤ p + r → (e - r - p + 1) / 2 ≡ 0
 count-back e r p h = omega arith
 
 module _ (l : Layout) (room : ℕ) (s : State) where
