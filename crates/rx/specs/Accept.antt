@@ -55,7 +55,7 @@ stateAfter s samples spans o p n =
       step = spans .step;
       power = spans .power;
       search = placeAfter (s .search) p n;
-      hold = o .next
+      hold = o .next;
     }
 
 -- what the two steps before the search leave: memory m, m₁ after the samples' append, m₂ after the filter

@@ -34,7 +34,8 @@ use Rattle.rx.specs.Receiver.{Carrier, Receiver, carrierOf, searchFrom, 
 use Rattle.rx.specs.View.{carrierIn, view}
 use Rattle.rx.specs.Open.{openedState}
 use Rattle.rx.specs.Conditions.{spanEnd}
-use Rattle.rx.specs.Sound.{Waits, PlaceNear, HeldNear, BlockNear, Sound}
+use Rattle.rx.specs.Near.{NearPlace, NearHeld, NearBlock}
+use Rattle.rx.specs.Sound.{Waits, Sound}
 use Rattle.rx.specs.Numbers as numbers
 use Rattle.rx.specs.Numbers.{endWith, baseWith, placeIn, countWith, chiAfter}
 
@@ -53,13 +54,13 @@ record Ready (dead q : ℕ) (h : Hold) : Type 0 where
   hold-is : h .hold ≡ 8
   dead-is : h .dead ≡ dead
   before : Before q (h .best)
-  near : BlockNear (h .block)
+  near : NearBlock (h .block)
 
 record Running (dead q : ℕ) (h : Hold) : Type 0 where
   hold-is : h .hold ≡ 8
   dead-is : h .dead ≡ dead
   since : Since q (h .best)
-  near : BlockNear (h .block)
+  near : NearBlock (h .block)
 
 taken-since : (q : ℕ) (block : Block) (best : Held) (p : Position) (c : Candidate) → p .0 ≡ q → Since q best → Since q (taken block best p c)
 unfolding taken
@@ -256,7 +257,7 @@ waits-since p n b (held.At c m) h w =
     let v = w .1 in
     (omega arith, omega arith, omega arith)
 
-held-since : (q : ℕ) (best : Held) → q ≤ 2 ^ 49 → Since q best → HeldNear best
+held-since : (q : ℕ) (best : Held) → q ≤ 2 ^ 49 → Since q best → NearHeld best
 held-since q held.Empty h w = tt
 held-since q (held.At c m) h w = omega (arith, w .0)
 
@@ -264,9 +265,9 @@ held-since q (held.At c m) h w = omega (arith, w .0)
 record Found (l : Layout) (fb fe : ℕ) (search : SearchPlace) (h : Hold) : Type 0 where
   hold-is : h .hold ≡ 8
   dead-is : h .dead ≡ l .dead
-  place-near : PlaceNear search
-  held-near : HeldNear (h .best)
-  block-near : BlockNear (h .block)
+  place-near : NearPlace search
+  held-near : NearHeld (h .best)
+  block-near : NearBlock (h .block)
   searched : fe ≤ searchFrom search fb + reach l
   waits : Waits search fb (h .best)
 

@@ -11,6 +11,7 @@ use Rattle.laws.specs.Tests.{inRange, inSize}
 use Rattle.level.specs.declared.Layout.{Layout}
 use Rattle.level.specs.Lengths.{memoryLength}
 use Rattle.track.specs.declared.Span.{Span}
+pub use Rattle.track.specs.Append.{spanEnd}
 use Rattle.filter.specs.Filter.{filteredEnd}
 use Rattle.hold.specs.declared.Hold.{Hold}
 use Rattle.hold.specs.declared.Held.{Held}
@@ -36,10 +37,6 @@ unfoldable pub wrongBook : List Float → Bool
 wrongBook book = not (eqb (length book) 6000) || any (λ i. not (inRange (neg one) one (getD book i nan))) 6000
 
 -- ---- 17
--- the position after a span's last
-abbrev pub spanEnd : Span → ℕ
-spanEnd s = s .base .0 + s .len
-
 -- "a position outside 0 to 2^49"
 abbrev pub outside : ℕ → Bool
 outside p = ltb (2 ^ 49) p

@@ -80,7 +80,7 @@ accepted l t book new s m m₂ r end f e a b =
       offered = c .offered;
       tracked = a .tracked;
       searched = c .searched;
-      result = c .result
+      result = c .result;
     }
 
 module _ (g : Given) (s : State) (m m₂ : List Float) (l : Layout) (i : IsLayout l) (e : chosen (g .bandwidth) (g .rec) ≡ answered l)
@@ -121,5 +121,5 @@ module _ (g : Given) (s : State) (m m₂ : List Float) (l : Layout) (i : IsLayou
       subst (λ (x : FeedResult). FedBy g s m (x .answer) (x .state) m₂) (sym (a .result))
       (record {
         answer = ap answered release-is ∙ outcome-is;
-        left = (refl, refl, a .tracked .filtered .others .kept .as-long ∙ a .tracked .appended .others .kept .as-long, view-is)
+        left = (refl, refl, a .tracked .filtered .others .kept .as-long ∙ a .tracked .appended .others .kept .as-long, view-is);
       })

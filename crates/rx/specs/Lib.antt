@@ -2,10 +2,10 @@ pub mod Receiver
 pub mod View
 pub mod Conditions
 pub mod Near
+pub mod Sound
 pub mod Feed
 pub mod Open
 pub mod Local
-pub mod Sound
 pub mod Numbers
 pub mod Once
 pub mod After

@@ -8,6 +8,8 @@ use Rattle.level.specs.Lengths.{memoryLength}
 use native.Mathlib.Omega.{arith}
 use borrow.Author.Tests.{ltb-false}
 use Rattle.dat.specs.Counts.{neither}
+use Rattle.hold.specs.declared.Block.{Block}
+use Rattle.hold.specs.declared.Block.the-variants.{First, From}
 use Rattle.hold.specs.declared.Held.{Held}
 use Rattle.hold.specs.declared.Held.the-variants as held
 use Rattle.rx.specs.declared.SearchPlace.{SearchPlace}
@@ -23,6 +25,10 @@ NearPlace (At p) = p .0 ≤ 2 ^ 49
 abbrev pub NearHeld : Held → Type 0
 NearHeld held.Empty = Unit {0}
 NearHeld (held.At b m) = b .0 ≤ 2 ^ 49
+
+abbrev pub NearBlock : Block → Type 0
+NearBlock First = Unit {0}
+NearBlock (From b) = b .0 ≤ 2 ^ 49
 
 pub record Near (s : State) : Type 0 where
   pub start : s .start .0 ≤ 2 ^ 49

@@ -29,6 +29,7 @@ use Rattle.search.specs.Search.{reach, offerOf, offersFrom}
 use Rattle.rx.specs.declared.SearchPlace.{SearchPlace}
 use Rattle.rx.specs.declared.SearchPlace.the-variants.{Fresh, At}
 use Rattle.search.specs.Fits.{lastReleased}
+use Rattle.search.specs.Offers.{lone-released}
 use Rattle.rx.specs.declared.State.{State}
 use Rattle.rx.specs.Receiver.{searchFrom, Feed, fed}
 use Rattle.rx.specs.View.{view}
@@ -136,13 +137,7 @@ module _ (l : Layout) (i : IsLayout l) (s : State) (memory : List Float) (f : Fe
   once e few = sound-once (sound l (length memory) s e .0) few
 
 -- ---- "one answer or none": the release of a list of at most one
-pub released-last : (ds : List Detection) → length ds ≤ 1 → released (lastReleased ds) [] ≡ ds
-unfolding lastReleased released
-released-last [] h = refl
-released-last (d ∷ []) h = refl
-released-last (d ∷ e ∷ ds) h = absurd (omega arith)
-
 module _ (l : Layout) (i : IsLayout l) (s : State) (memory : List Float) (f : Feed) where
   pub once-released : wrongState l (length memory) s ≡ false → length (f .samples) ≤ 4000
       → released (lastReleased (fed l f (view l s memory) .released)) [] ≡ fed l f (view l s memory) .released
-  once-released e few = released-last (fed l f (view l s memory) .released) (once l i s memory f e few)
+  once-released e few = lone-released (fed l f (view l s memory) .released) (once l i s memory f e few)

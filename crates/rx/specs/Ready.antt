@@ -28,7 +28,8 @@ use Rattle.rx.specs.declared.SearchPlace.{SearchPlace}
 use Rattle.rx.specs.declared.SearchPlace.the-variants.{Fresh, At}
 use Rattle.rx.specs.Receiver.{placeOr, searchFrom}
 use Rattle.rx.specs.Conditions.{spanEnd}
-use Rattle.rx.specs.Sound.{PlaceNear, HeldNear, Sound}
+use Rattle.rx.specs.Near.{NearPlace, NearHeld}
+use Rattle.rx.specs.Sound.{Sound}
 use Rattle.rx.specs.Numbers.{endWith, baseWith, placeIn, countWith, keep-delay, search-kept, end-grows, end-grows-by}
 use Rattle.rx.specs.Accept.{spansOf}
 
@@ -66,7 +67,7 @@ module _ (l : Layout) (s : State) (room count : ℕ) (r : Ready l s room count) 
         short = w .samples-short;
         early = base-early (s .samples .base .0) (s .samples .len) (w .samples-near);
         values = h;
-        few = r .few
+        few = r .few;
       }
 
   pub filter-fits : (room′ book : ℕ) (samples : Span) → room′ ≡ room → book ≡ 6000 → samples ≡ spanAfter (l .keep) (s .samples) count
@@ -88,11 +89,11 @@ module _ (l : Layout) (s : State) (room count : ℕ) (r : Ready l s room count) 
         step-end = rw (w .step-base, w .step-len) refl;
         power-end = rw (w .power-base, w .power-len) refl;
         begun = rw a (trim-early (l .keep) (l .delay) (s .samples .base .0) (spanEnd (s .samples)) count _ (s .start .0) (spanEnd (s .filtered)) (keep-delay l z) (r .few) (w .samples-from) (w .filtered-end) (span-trimmed (l .keep) (s .samples) count .most));
-        reach = λ h. rw (a, span-end (l .keep) (s .samples) count, w .filtered-end) (values-reach (s .start .0) (l .delay) (spanEnd (s .samples)) count (rw (w .filtered-end) at h))
+        reach = λ h. rw (a, span-end (l .keep) (s .samples) count, w .filtered-end) (values-reach (s .start .0) (l .delay) (spanEnd (s .samples)) count (rw (w .filtered-end) at h));
       }
 
 -- ---- the search
-held-below : (h : Held) → HeldNear h → HeldBelow h
+held-below : (h : Held) → NearHeld h → HeldBelow h
 held-below held.Empty n = tt
 held-below (held.At b m) n = omega arith
 
@@ -108,7 +109,7 @@ all-before e r p i h = omega arith
 none-far : (e r p : ℕ) → e ≤ 2 ^ 49 + 4000 → p ≤ 2 ^ 49 + 34 → p + 2 * ((e - r - p + 1) / 2) ≤ 2 ^ 50
 none-far e r p h k = omega arith
 
-place-low : (q : SearchPlace) (b : ℕ) → PlaceNear q → b ≤ 2 ^ 49 → searchFrom q b ≤ 2 ^ 49 + 34
+place-low : (q : SearchPlace) (b : ℕ) → NearPlace q → b ≤ 2 ^ 49 → searchFrom q b ≤ 2 ^ 49 + 34
 place-low Fresh b n h = omega arith
 place-low (At p) b n h = omega arith
 
@@ -150,7 +151,7 @@ module _ (l : Layout) (s : State) (room count : ℕ) (r : Ready l s room count) 
       let g : b .base .0 ≤ placeIn s = le-trans (le-of-eq (base-then a b p q e)) base-low in
       record {
         len-most = rw e (span-short (l .keep) a (fe′ - fe));
-        within = λ j J. record { begun = omega arith; inside = lt-of-lt-of-le (all-before fe′ (reach l) (placeIn s) j J) (le-of-eq (sym h)) }
+        within = λ j J. record { begun = omega arith; inside = lt-of-lt-of-le (all-before fe′ (reach l) (placeIn s) j J) (le-of-eq (sym h)) };
       }
 
   pub search-fits : (t : Tables) (room′ : ℕ) (spans : Spans) → Markers l (t .markers) → Phasors l (t .phasors) → room′ ≡ room
@@ -168,9 +169,9 @@ module _ (l : Layout) (s : State) (room count : ℕ) (r : Ready l s room count) 
         power-fits = track-fits (s .power) (spans .power) (w .power-base) (w .power-len) b;
         one-base = base-then (s .power) (spans .power) (w .power-base) (w .power-len) b ∙ sym (base-then (s .step) (spans .step) (w .step-base) (w .step-len) a);
         small =
-          none-far fe′ (reach l) (placeIn s) (end-low (s .start .0) (l .delay) (spanEnd (s .samples)) count (w .start-near) (z .delay-most) (w .samples-near) (r .few))
-          (place-low (s .search) (s .filtered .base .0) (w .place-near) (omega (arith, w .filtered-near)));
-        hold-fits = record { dead-small = omega (arith, w .dead, z .dead-is, z .nsym-most); held-small = held-below (s .hold .best) (w .held-near) }
+            none-far fe′ (reach l) (placeIn s) (end-low (s .start .0) (l .delay) (spanEnd (s .samples)) count (w .start-near) (z .delay-most) (w .samples-near) (r .few))
+            (place-low (s .search) (s .filtered .base .0) (w .place-near) (omega (arith, w .filtered-near)));
+        hold-fits = record { dead-small = omega (arith, w .dead, z .dead-is, z .nsym-most); held-small = held-below (s .hold .best) (w .held-near) };
       }
 
   -- where the search starts, and where the filtered tracks then end

@@ -18,6 +18,7 @@ use Rattle.rx.specs.declared.SearchPlace.{SearchPlace}
 use Rattle.rx.specs.declared.SearchPlace.the-variants.{Fresh, At}
 use Rattle.rx.specs.declared.State.{State}
 use Rattle.rx.specs.Receiver.{searchFrom}
+use Rattle.rx.specs.Near.{NearPlace, NearHeld, NearBlock}
 use Rattle.rx.specs.Conditions.{spanEnd, outside, otherLayout, wrongHold, longTracks, unequal, unequalTracks, wrongEnd, lateSamples, unsearched, strayFrom, strayHeld, wrongHeld, placeOutside, heldOutside, blockOutside, farPositions, wrongState}
 
 -- a held candidate is 2 to 10 before the search place, and at most 1,000 below the filtered base
@@ -25,19 +26,6 @@ abbrev pub Waits : SearchPlace → ℕ → Held → Type 0
 Waits s base held.Empty = Unit {0}
 Waits Fresh base (held.At b m) = ⊥
 Waits (At p) base (held.At b m) = (b .0 + 2 ≤ p .0) × (p .0 ≤ b .0 + 10) × (base ≤ b .0 + 1000)
-
--- positions at most 2^49
-abbrev pub PlaceNear : SearchPlace → Type 0
-PlaceNear Fresh = Unit {0}
-PlaceNear (At p) = p .0 ≤ 2 ^ 49
-
-abbrev pub HeldNear : Held → Type 0
-HeldNear held.Empty = Unit {0}
-HeldNear (held.At b m) = b .0 ≤ 2 ^ 49
-
-abbrev pub BlockNear : Block → Type 0
-BlockNear First = Unit {0}
-BlockNear (From b) = b .0 ≤ 2 ^ 49
 
 pub record Sound (l : Layout) (s : State) : Type 0 where
   pub bandwidth : s .bandwidth ≡ l .bandwidth
@@ -49,9 +37,9 @@ pub record Sound (l : Layout) (s : State) : Type 0 where
   pub start-near : s .start .0 ≤ 2 ^ 49
   pub samples-near : spanEnd (s .samples) ≤ 2 ^ 49
   pub filtered-near : spanEnd (s .filtered) ≤ 2 ^ 49
-  pub place-near : PlaceNear (s .search)
-  pub held-near : HeldNear (s .hold .best)
-  pub block-near : BlockNear (s .hold .block)
+  pub place-near : NearPlace (s .search)
+  pub held-near : NearHeld (s .hold .best)
+  pub block-near : NearBlock (s .hold .block)
   pub step-base : s .step .base .0 ≡ s .filtered .base .0
   pub step-len : s .step .len ≡ s .filtered .len
   pub power-base : s .power .base .0 ≡ s .filtered .base .0
@@ -91,27 +79,27 @@ not-unequal : (a b : ℕ) → a ≡ b → not (eqb a b) ≡ false
 not-unequal a b e = rw (eq-eqb a b e)
 
 -- ---- each clause, and back
-place-of : (s : SearchPlace) → placeOutside s ≡ false → PlaceNear s
+place-of : (s : SearchPlace) → placeOutside s ≡ false → NearPlace s
 place-of Fresh e = tt
 place-of (At p) e = ltb-false (2 ^ 49) (p .0) e
 
-place-back : (s : SearchPlace) → PlaceNear s → placeOutside s ≡ false
+place-back : (s : SearchPlace) → NearPlace s → placeOutside s ≡ false
 place-back Fresh e = refl
 place-back (At p) e = le-ltb (2 ^ 49) (p .0) e
 
-held-of : (h : Held) → heldOutside h ≡ false → HeldNear h
+held-of : (h : Held) → heldOutside h ≡ false → NearHeld h
 held-of held.Empty e = tt
 held-of (held.At b m) e = ltb-false (2 ^ 49) (b .0) e
 
-held-back : (h : Held) → HeldNear h → heldOutside h ≡ false
+held-back : (h : Held) → NearHeld h → heldOutside h ≡ false
 held-back held.Empty e = refl
 held-back (held.At b m) e = le-ltb (2 ^ 49) (b .0) e
 
-block-of : (b : Block) → blockOutside b ≡ false → BlockNear b
+block-of : (b : Block) → blockOutside b ≡ false → NearBlock b
 block-of First e = tt
 block-of (From b) e = ltb-false (2 ^ 49) (b .0) e
 
-block-back : (b : Block) → BlockNear b → blockOutside b ≡ false
+block-back : (b : Block) → NearBlock b → blockOutside b ≡ false
 block-back First e = refl
 block-back (From b) e = le-ltb (2 ^ 49) (b .0) e
 

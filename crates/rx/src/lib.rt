@@ -19,11 +19,11 @@ ghost use Rattle.rx.specs.Fed.{FollowedBy, SearchOnFits, SearchedOn, Acc
 ghost use Rattle.rx.specs.Open.{openedState, startFault, openFault, openOutcome, outcome};
 ghost use Rattle.rx.specs.Near.{Near, NearPlace};
 ghost use Rattle.rx.specs.Conditions.{wrongStart, wrongBook, outside, spanEnd, otherLayout, wrongHold, longTracks, farPositions, unequal, unequalTracks, wrongEnd, lateSamples, unsearched, strayFrom, wrongHeld, placeOutside, heldOutside, blockOutside, wrongState, wrongSamples, wrongNumber, wrongParts};
+use filter::Spans;
 use hold::Block;
 use hold::Held;
 use hold::Hold;
 use hold::Release;
-use filter::Spans;
 use level::Chosen;
 use level::Layout;
 use refusal::Fault;
@@ -561,7 +561,14 @@ fn place_after(s: SearchPlace, p: u64, n: u64) -> SearchPlace
 }
 
 // The samples appended, and every carrier filtered: n new values.
-fn follow(l: Layout, book: &[f64], s: State, memory: &mut [f64], samples: &[f64], n: usize) -> Tracks
+fn follow(
+    l: Layout,
+    book: &[f64],
+    s: State,
+    memory: &mut [f64],
+    samples: &[f64],
+    n: usize,
+) -> Tracks
     requires { ⌜ Ready l s (length (now memory)) (length (now samples) / 2) × (length (now book) ≡ 6000) × (n ≡ endWith l s (length (now samples) / 2) - spanEnd (s .filtered)) ⌝ }
     ensures { λ r. ⌜ FollowedBy l (now (book .entry)) (now (samples .entry)) s (now (memory .entry)) (now (memory .exit)) r ⌝ }
 {
@@ -585,7 +592,15 @@ fn follow(l: Layout, book: &[f64], s: State, memory: &mut [f64], samples: &[f64]
 }
 
 // The search over the tracks, filtered up to `end`, and the state after it.
-fn search_on(l: Layout, markers: &[u16], phasors: &[f64], s: State, memory: &[f64], tracks: Tracks, end: u64) -> FeedResult
+fn search_on(
+    l: Layout,
+    markers: &[u16],
+    phasors: &[f64],
+    s: State,
+    memory: &[f64],
+    tracks: Tracks,
+    end: u64,
+) -> FeedResult
     requires { ⌜ SearchOnFits l (record { markers = now markers; phasors = now phasors }) s (length (now memory)) tracks end ⌝ }
     ensures { λ r. ⌜ SearchedOn l (record { markers = now (markers .entry); phasors = now (phasors .entry) }) s (now (memory .entry)) tracks end r ⌝ }
 {
@@ -601,7 +616,17 @@ fn search_on(l: Layout, markers: &[u16], phasors: &[f64], s: State, memory: &[f6
     let power = spans.power;
     let lo = search_from(place, base.0);
     let n = search_count(l, lo, end);
-    let o = search::search(l, memory, markers, phasors, step, power, lo, n as usize, hold);
+    let o = search::search(
+        l,
+        memory,
+        markers,
+        phasors,
+        step,
+        power,
+        lo,
+        n as usize,
+        hold,
+    );
     let search = place_after(place, lo, n);
     let next = o.next;
     let release = o.release;
@@ -622,7 +647,15 @@ fn search_on(l: Layout, markers: &[u16], phasors: &[f64], s: State, memory: &[f6
 }
 
 // An accepted feed.
-fn accept(l: Layout, markers: &[u16], phasors: &[f64], book: &[f64], s: State, memory: &mut [f64], samples: &[f64]) -> FeedResult
+fn accept(
+    l: Layout,
+    markers: &[u16],
+    phasors: &[f64],
+    book: &[f64],
+    s: State,
+    memory: &mut [f64],
+    samples: &[f64],
+) -> FeedResult
     requires { ⌜ Ready l s (length (now memory)) (length (now samples) / 2) × (length (now book) ≡ 6000) × Markers l (now markers) × Phasors l (now phasors) ⌝ }
     ensures { λ r. ⌜ AcceptedBy l (record { markers = now (markers .entry); phasors = now (phasors .entry) }) (now (book .entry)) (now (samples .entry)) s (now (memory .entry)) (now (memory .exit)) (length (now (samples .entry)) / 2) r ⌝ }
 {

@@ -34,7 +34,7 @@ search-fits l t s book new m m₂ r end ready f e a b =
       markers-ok = a;
       phasors-ok = b;
       step-is = ap (λ (x : Spans). x .step) (f .tracked .filtered .spans);
-      power-is = ap (λ (x : Spans). x .power) (f .tracked .filtered .spans)
+      power-is = ap (λ (x : Spans). x .power) (f .tracked .filtered .spans);
     }
 
 span-end-requires : tie.Need-span-end-requires
@@ -53,12 +53,12 @@ sub-n : tie.Need-sub-n
 sub-n c = search needs
 
 follow-requires : tie.Need-follow-requires
-follow-requires c κs = 
+follow-requires c κs =
     let s = c .before .before .before .before .before .before .before .before .before .before .before .before in
     (s .pre .0, s .pre .1, ap₂ (λ (a b : ℕ). a - b) (end-is (s .args .l) (s .args .s) _ _ _ (c .before .before .before .span-end .ensures) (c .before .before .filtered-end .ensures)) (c .before .span-end2 .ensures))
 
 search-on-requires : tie.Need-search-on-requires
-search-on-requires c κs = 
+search-on-requires c κs =
     let s = c .before .before .before .before .before .before .before .before .before .before .before .before .before .before .before .before in
     search-fits _ _ _ _ _ _ _ _ _ (s .pre .0) (c .before .before .before .follow .ensures) (end-is (s .args .l) (s .args .s) _ _ _ (c .before .before .before .before .before .before .before .span-end .ensures) (c .before .before .before .before .before .before .filtered-end .ensures)) (s .pre .2) (s .pre .3)
 
@@ -66,7 +66,7 @@ same-length : tie.Need-same-length
 same-length c = search needs
 
 returns : tie.Need-returns
-returns c = 
+returns c =
     let s = c .before .before .before .before .before .before .before .before .before .before .before .before .before .before .before .before .before in
     accepted _ _ _ _ _ _ _ _ _ _ (end-is (s .args .l) (s .args .s) _ _ _ (c .before .before .before .before .before .before .before .before .span-end .ensures) (c .before .before .before .before .before .before .before .filtered-end .ensures)) (c .before .before .before .before .follow .ensures) (c .search-on .ensures)
 

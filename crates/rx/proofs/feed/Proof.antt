@@ -75,7 +75,7 @@ passed l g s room i h =
       book = book-long (g .book) (b .0);
       markers = t .0;
       phasors = t .1;
-      right = c .0
+      right = c .0;
     }
 
 module _ (g : Given) (s : State) (m : List Float) where

@@ -37,7 +37,7 @@ append-requires : tie.Need-append-requires
 append-requires c κs = append-fits _ _ _ _ (c .before .before .before .before .before .before .before .before .before .pre .0) _ (omega arith)
 
 filter-carriers-requires : tie.Need-filter-carriers-requires
-filter-carriers-requires c κs = 
+filter-carriers-requires c κs =
     let s = c .before .before .before .before .before .before .before .before .before .before .before .before .before in
     let a = c .before .before .before .append .ensures in
     at-end (s .args .l) (s .args .s) (length (s .args .samples .now) / 2) (c .before .before .before .before .before .span-end .ensures) (s .pre .2)
@@ -47,15 +47,15 @@ same-length : tie.Need-same-length
 same-length c = search needs
 
 returns : tie.Need-returns
-returns c = 
+returns c =
     let s = c .before .before .before .before .before .before .before .before .before .before .before .before .before .before .before .before in
     record {
       middle = c .before .before .before .before .before .before .append .last .1 .0;
       tracked =
-        record {
-          appended = c .before .before .before .before .before .before .append .ensures;
-          filtered = filtered-at (s .args .l) (s .args .s) (length (s .args .samples .now) / 2) (c .before .before .before .before .before .before .before .before .span-end .ensures) (s .pre .2) (c .before .before .filter-carriers .ensures)
-        }
+          record {
+            appended = c .before .before .before .before .before .before .append .ensures;
+            filtered = filtered-at (s .args .l) (s .args .s) (length (s .args .samples .now) / 2) (c .before .before .before .before .before .before .before .before .span-end .ensures) (s .pre .2) (c .before .before .filter-carriers .ensures);
+          };
     }
 
 pub follow-spec : {M : Type 1} → statement M

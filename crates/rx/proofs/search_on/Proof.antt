@@ -40,27 +40,27 @@ module _ (l : Layout) (t : Tables) (s : State) (r : Tracks) (end lo n : ℕ) (p 
 
   result-is : {m : List Float} (o : Offered) (search : SearchPlace) → Searched (s .hold) (offersIn l t m (r .spans .step) (r .spans .power) lo n) o → search ≡ placeAfter (s .search) lo n
       → SearchedOn l t s m r end
-        (record {
-          state = record { bandwidth = s .bandwidth; rec = s .rec; start = s .start; samples = r .samples; filtered = r .spans .filtered; step = r .spans .step; power = r .spans .power; search = search; hold = o .next };
-          answer = Accepted (o .release)
-        })
+      (record {
+        state = record { bandwidth = s .bandwidth; rec = s .rec; start = s .start; samples = r .samples; filtered = r .spans .filtered; step = r .spans .step; power = r .spans .power; search = search; hold = o .next };
+        answer = Accepted (o .release);
+      })
   result-is {m} o search h e =
       record {
         offered = o;
         searched = subst (λ (x : ℕ). Searched (s .hold) (offersIn l t m (r .spans .step) (r .spans .power) (placeIn s) x) o) count-is (subst (λ (x : ℕ). Searched (s .hold) (offersIn l t m (r .spans .step) (r .spans .power) x n) o) p h);
-        result = with-place (e ∙ ap₂ (placeAfter (s .search)) p count-is)
+        result = with-place (e ∙ ap₂ (placeAfter (s .search)) p count-is);
       }
     where
       with-place : {a b : SearchPlace} → a ≡ b
           → _≡_ {A = FeedResult} (record { state = record { bandwidth = s .bandwidth; rec = s .rec; start = s .start; samples = r .samples; filtered = r .spans .filtered; step = r .spans .step; power = r .spans .power; search = a; hold = o .next }; answer = Accepted (o .release) })
-            (record { state = record { bandwidth = s .bandwidth; rec = s .rec; start = s .start; samples = r .samples; filtered = r .spans .filtered; step = r .spans .step; power = r .spans .power; search = b; hold = o .next }; answer = Accepted (o .release) })
+          (record { state = record { bandwidth = s .bandwidth; rec = s .rec; start = s .start; samples = r .samples; filtered = r .spans .filtered; step = r .spans .step; power = r .spans .power; search = b; hold = o .next }; answer = Accepted (o .release) })
       with-place e = rw e refl
 
 search-from-requires : tie.Need-search-from-requires
 search-from-requires c κs = (c .before .before .before .before .before .before .before .before .before .before .before .before .pre .ready .sound .place-near, omega (arith, c .before .before .before .before .before .before .before .before .before .before .before .before .pre .ready .sound .filtered-near))
 
 search-count-requires : tie.Need-search-count-requires
-search-count-requires c κs = 
+search-count-requires c κs =
     let p = c .before .before .before .before .before .before .before .before .before .before .before .before .before .pre in
     let n = searched-near _ _ _ _ (p .ready) in
     (sized _ (p .ready .layout), omega (arith, c .search-from .ensures, n .0), omega (arith, p .end-is, n .1))
