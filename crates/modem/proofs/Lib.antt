@@ -9,3 +9,4 @@ pub mod Fresh
 pub mod Detections
 pub mod Refused
 pub mod Opened
+pub mod Marked
