@@ -1,18 +1,12 @@
 -- A level whose carriers are in arithmetic progression, as the code's rows give it.
 use Prim.Native.Nat.{ℕ, _+_, _-_, _*_, _≤_, _<_}
 use mathlib.Core.Path.{_≡_}
-use mathlib.Core.Bool.{cond}
 use mathlib.Core.List.{List}
 use native.Mathlib.Omega.{arith}
-use lib.Dec.{eqb}
 use lib.ListN.{length, getD}
 use Rattle.complex.specs.Lists.{tabulate, length-tabulate, getD-tabulate}
-use Rattle.level.specs.Level.{Pulse, rc, rrc1, rrc2, Level, psk}
-use Rattle.level.specs.Layout.{tapCount}
-
--- the pulse of a count of taps
-abbrev pub pulseOf : ℕ → Pulse
-pulseOf taps = cond (eqb taps 33) rc (cond (eqb taps 65) rrc1 rrc2)
+use Rattle.level.specs.Level.{Level, psk}
+use Rattle.level.specs.Layout.{tapCount, pulseOf}
 
 -- nc frequencies, spacing apart from first on
 unfoldable pub progression : ℕ → ℕ → ℕ → List ℕ

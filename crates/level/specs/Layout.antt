@@ -29,6 +29,10 @@ tapCount rc = 33
 tapCount rrc1 = 65
 tapCount rrc2 = 129
 
+-- the pulse of a count of taps
+abbrev pub pulseOf : ℕ → Pulse
+pulseOf taps = cond (eqb taps 33) rc (cond (eqb taps 65) rrc1 rrc2)
+
 -- "delay is (taps − 1) / 2"
 abbrev pub delayOf : ℕ → ℕ
 delayOf taps = (taps - 1) / 2

@@ -19,9 +19,9 @@ allCells l = l .nc * cells l
 unfoldable pub rowLength : Layout → ℕ → ℕ
 rowLength l frames = 9 + frames * l .nsym
 
--- the audio of a row whose carrier has that stagger
+-- the audio of a row on a carrier whose stagger is s
 abbrev pub audioOf : Layout → ℕ → ℕ → ℕ
-audioOf l frames lag = 16 * (32 * rowLength l frames + lag + l .taps - 1) + 31
+audioOf l frames s = 16 * (32 * rowLength l frames + s + l .taps - 1) + 31
 
 -- "length 16 × (32 × L + greatest stagger + taps − 1) + 31"
 unfoldable pub audioLength : Layout → ℕ → ℕ

@@ -5,3 +5,4 @@ pub mod Even
 pub mod Tested
 pub mod Rows
 pub mod Sized
+pub mod Kept

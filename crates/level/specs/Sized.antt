@@ -3,13 +3,14 @@ use Prim.Native.Nat.{ℕ, _+_, _*_, _≤_, _<_}
 use mathlib.Core.Path.{_≡_, sym, _∙_}
 use mathlib.Core.Bool.{Bool}
 use native.Mathlib.Omega.{arith}
+use native.Mathlib.Nat.{mul-le-mul}
 use lib.Dec.{T, leb, eqb, leb→le, eqb→eq}
 use lib.ListN.{getD}
 use Rattle.refusal.specs.Outcome.{answered}
 use Rattle.level.specs.declared.Layout.{Layout}
 use Rattle.level.specs.Level.{Level, levels, levelOf}
 use Rattle.level.specs.Layout.{carrierCount, stagger, greatestStagger, layoutOf}
-use Rattle.level.specs.Lengths.{carrierHz, cells, memoryLength}
+use Rattle.level.specs.Lengths.{carrierHz, cells, rowLength, memoryLength}
 use Rattle.level.specs.Tested.{below, below-at}
 use Rattle.level.specs.Rows.{IsLayout, row-rule, layout-rule, at-most, equal}
 
@@ -27,6 +28,7 @@ pub record Sized (l : Layout) : Type 0 where
   pub cells-are : cells l + l .markers + 1 ≡ l .nsym
   pub n-is : l .n ≡ l .nc * cells l * l .bps
   pub n-most : l .n ≤ 8944
+  pub cells-most : l .nc * cells l ≤ 4472
   pub marks-most : l .nc * l .markers ≤ 40
   pub symbols-most : l .nc * l .nsym ≤ 4524
   pub taps-are : l .taps ≡ 2 * l .delay + 1
@@ -54,6 +56,7 @@ sized l i =
       cells-are = equal l i (λ x. cells x + x .markers + 1) (λ x. x .nsym) tt;
       n-is = equal l i (λ x. x .n) (λ x. x .nc * cells x * x .bps) tt;
       n-most = at-most l i (λ x. x .n) (λ x. 8944) tt;
+      cells-most = at-most l i (λ x. x .nc * cells x) (λ x. 4472) tt;
       marks-most = at-most l i (λ x. x .nc * x .markers) (λ x. 40) tt;
       symbols-most = at-most l i (λ x. x .nc * x .nsym) (λ x. 4524) tt;
       taps-are = equal l i (λ x. x .taps) (λ x. 2 * x .delay + 1) tt;
@@ -90,3 +93,10 @@ early l c = leb (stagger (l .nc) c) (l .«max_stagger»)
 pub stagger-within : (l : Layout) → IsLayout l → (c : ℕ) → c < l .nc → stagger (l .nc) c ≤ l .«max_stagger»
 unfolding layoutOf greatestStagger stagger early
 stagger-within l i c h = leb→le _ _ (below-at (early l) (l .nc) (layout-rule l i (λ x. below (early x) (x .nc)) tt) c h)
+
+-- a row of at most four frames
+pub row-most : (l : Layout) → IsLayout l → (frames : ℕ) → frames ≤ 4 → rowLength l frames ≤ 1809
+unfolding rowLength
+row-most l i frames h =
+    let s : Sized l = sized l i in
+    omega (arith, mul-le-mul h (s .nsym-most))

@@ -1,8 +1,11 @@
 // The fifteen PSK layouts (01, "Layouts"; hf/level.rs).
 ghost use mathlib.Core.Path.{_≡_};
 ghost use Prim.Native.Nat.{_≤_, _<_};
-ghost use Rattle.level.specs.Layout.{greatestStagger, layoutOf, chosen, outcome};
+ghost use Rattle.level.specs.Layout.{stagger, greatestStagger, layoutOf, chosen, outcome};
 ghost use Rattle.level.specs.Even.{evenLevel, Sound};
+ghost use Rattle.level.specs.Lengths.{carrierHz, cells, rowLength, audioOf, audioLength, carrierAudioLength, memoryLength};
+ghost use Rattle.level.specs.Rows.{IsLayout};
+ghost use Rattle.level.specs.Kept.{share, keptCells};
 use refusal::Refusal;
 
 // A layout's numbers: all that 01 derives from its row, and the carriers as a first one and a spacing.
@@ -105,4 +108,91 @@ pub fn choose(bandwidth: u32, rec: u32) -> Chosen
         },
         _ => Chosen::Refused(Refusal::Level),
     }
+}
+
+// The Hz of carrier c.
+pub fn carrier_hz(l: Layout, c: usize) -> u64
+    requires { ⌜ IsLayout l × (c < l .nc) ⌝ }
+    ensures { λ r. ⌜ r ≡ carrierHz l c ⌝ }
+{
+    l.first_hz + c as u64 * l.spacing_hz
+}
+
+// The stagger of carrier c among nc, in 3 kHz samples.
+pub fn stagger(nc: usize, c: usize) -> u64
+    ensures { λ r. ⌜ r ≡ stagger nc c ⌝ }
+{
+    if nc == 3 {
+        return match c {
+            1 => 11,
+            2 => 21,
+            _ => 0,
+        };
+    }
+    if c % 2 == 1 { 16 } else { 0 }
+}
+
+// The data cells of a carrier.
+pub fn cells(l: Layout) -> usize
+    requires { ⌜ IsLayout l ⌝ }
+    ensures { λ r. ⌜ r ≡ cells l ⌝ }
+{
+    l.spf - 2 - l.markers
+}
+
+// The symbols of a carrier's row: 8 leads, the frames, a zero.
+pub fn row_len(l: Layout, frames: usize) -> usize
+    requires { ⌜ IsLayout l × (frames ≤ 4) ⌝ }
+    ensures { λ r. ⌜ r ≡ rowLength l frames ⌝ }
+{
+    9 + frames * l.nsym
+}
+
+// The places that the audio of a row takes on a carrier whose stagger is s.
+fn audio_of(l: Layout, frames: usize, s: u64) -> u64
+    requires { ⌜ IsLayout l × (frames ≤ 4) × (s ≤ 21) ⌝ }
+    ensures { λ r. ⌜ r ≡ audioOf l frames s ⌝ }
+{
+    16 * (32 * row_len(l, frames) as u64 + s + l.taps as u64 - 1) + 31
+}
+
+pub fn audio_len(l: Layout, frames: usize) -> u64
+    requires { ⌜ IsLayout l × (frames ≤ 4) ⌝ }
+    ensures { λ r. ⌜ r ≡ audioLength l frames ⌝ }
+{
+    audio_of(l, frames, l.max_stagger)
+}
+
+pub fn carrier_audio_len(l: Layout, frames: usize, c: usize) -> u64
+    requires { ⌜ IsLayout l × (frames ≤ 4) × (c < l .nc) ⌝ }
+    ensures { λ r. ⌜ r ≡ carrierAudioLength l frames c ⌝ }
+{
+    audio_of(l, frames, stagger(l.nc, c))
+}
+
+// The complex numbers of a receiver's memory.
+pub fn memory_len(l: Layout) -> usize
+    requires { ⌜ IsLayout l ⌝ }
+    ensures { λ r. ⌜ r ≡ memoryLength l ⌝ }
+{
+    (1 + 3 * l.nc) * (2 * l.keep as usize + 4000)
+}
+
+fn share(l: Layout) -> f64
+    requires { ⌜ IsLayout l ⌝ }
+    ensures { λ r. ⌜ r ≡ share l ⌝ }
+{
+    let all = l.nc * cells(l);
+    let ratio = 1500.0 / std::num::nearest_u64_to_f64(all as u64);
+    if ratio < 1.0 { ratio } else { 1.0 }
+}
+
+// The data cells of a carrier that the search keeps.
+pub fn kept_cells(l: Layout) -> usize
+    requires { ⌜ IsLayout l ⌝ }
+    ensures { λ r. ⌜ r ≡ keptCells l ⌝ }
+{
+    let part = std::num::nearest_u64_to_f64(cells(l) as u64) * share(l);
+    let kept = std::num::truncating_f64_to_u64(part) as usize;
+    if kept < 1 { 1 } else { kept }
 }
