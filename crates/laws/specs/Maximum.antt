@@ -3,12 +3,13 @@ use mathlib.Core.Path.{_≡_, refl, sym, ap, _∙_}
 use Prim.Native.Nat.{ℕ, zero, suc, _*_, _^_, _≤_, _<_}
 use native.Mathlib.Nat.{le-refl, le-trans, le-of-eq, le-of-mul-le-mul-right, zero-lt-suc, zero-mul, mul-zero, mul-one, one-mul, mul-comm, mul-assoc, mul-le-mul-left, mul-le-mul-right}
 use native.Mathlib.Omega.{arith}
-use mathlib.Core.Bool.{Bool, true, false, _||_, cond, true≢false}
+use mathlib.Core.Bool.{Bool, true, false, cond, true≢false}
 use lib.IntN.{pos}
 use lib.Dec.{T, eqb, eqb→eq}
 use lib.Ieee.{Float, nan, inf, fin, Format, emax, up, down, round, div, lt, eq, le}
 use lib.Ieee.Fits.{down-pos}
 use lib.Ieee.Positive.{num, den, den-pos}
+use Rattle.laws.specs.Order.{or-left}
 use Rattle.laws.specs.Sign.{Signed, round-signed}
 use Rattle.laws.specs.Plain.{plain, plain-signed, le-cross, cross-le}
 use Rattle.laws.specs.Size.{round-within, within-plain}
@@ -16,10 +17,6 @@ use Rattle.laws.specs.Size.{round-within, within-plain}
 -- x where it is above c, else c: so c where x is a NaN
 abbrev pub maxf : Float → Float → Float
 maxf x c = cond (lt c x) x c
-
-or-l : (a b : Bool) → T a → T (a || b)
-or-l true b t = tt
-or-l false b t = absurd t
 
 above-plain : (c x : Float) → T (plain c) → T (lt c x) → Signed false x
 unfolding lt
@@ -35,7 +32,7 @@ above-plain (fin false m e) (fin false n d) p h = refl
 -- whatever x is, the maximum is no NaN, has a clear sign and is at least c
 pub maxf-ge : (x c : Float) → T (plain c) → Signed false (maxf x c) × T (le c (maxf x c))
 unfolding le
-maxf-ge x c p = go (lt c x) (λ t. above-plain c x p t) (λ t. or-l (lt c x) (eq c x) t)
+maxf-ge x c p = go (lt c x) (λ t. above-plain c x p t) (λ t. or-left (lt c x) (eq c x) t)
   where
     go : (b : Bool) → (T b → Signed false x) → (T b → T (le c x)) → Signed false (cond b x c) × T (le c (cond b x c))
     go true h k = (h tt, k tt)

@@ -12,8 +12,21 @@ use lib.Ieee.Fits.{down-pos}
 use lib.Ieee.Positive.{first-pos}
 use borrow.Author.Tests.{ltb-true, ltb-false, lt-ltb, le-ltb, eq-eqb, ne-eqb, not-true, not-false}
 
+-- ---- tests
 pub clash {ℓ} : {X : Type ℓ} → false ≡ true → X
 clash e = absurd (true≢false (sym e))
+
+pub or-elim {ℓ} : {A : Type ℓ} (x y : Bool) → (T x → A) → (T y → A) → T (x || y) → A
+or-elim true y h k t = h tt
+or-elim false y h k t = k t
+
+pub or-left : (x y : Bool) → T x → T (x || y)
+or-left true y t = tt
+or-left false y t = absurd t
+
+pub or-right : (x y : Bool) → T y → T (x || y)
+or-right true y t = tt
+or-right false y t = t
 
 -- ---- magnitudes and signs
 -- x / a ≤ y / b and y / b < z / c give x / a < z / c

@@ -2,14 +2,15 @@
 use mathlib.Core.Path.{_≡_, refl, sym, subst}
 use Prim.Native.Nat.{ℕ, _*_, _≤_, _<_}
 use native.Mathlib.Nat.{le-trans, le-of-eq, le-suc, mul-pos}
-use mathlib.Core.Bool.{Bool, true, false, not, _&&_, _||_, true≢false}
-use lib.Dec.{T, ltb, eqb, eqb→eq, ltb→lt}
+use mathlib.Core.Bool.{Bool, true, false, not, _&&_, true≢false}
+use lib.Dec.{T, ltb, eqb, eqb→eq, ltb→lt, lt→ltb}
 use lib.Ieee.{Float, nan, inf, fin, up, down, le}
 use lib.Ieee.Fits.{and-l, up-pos}
 use lib.Ieee.Exact.{HasValue}
 use lib.Ieee.Order.{le-of-values}
 use lib.Ieee.Scale.{finite}
-use lib.Ieee.Positive.{num, den, den-pos, positive}
+use lib.Ieee.Positive.{num, den, den-pos, positive, first-pos}
+use Rattle.laws.specs.Order.{or-elim}
 use Rattle.laws.specs.Sign.{Signed}
 
 -- finite with a clear sign: not negative, +0 included, −0 left out
@@ -46,6 +47,12 @@ positive-num (inf s) p = absurd p
 positive-num (fin true m e) p = absurd p
 positive-num (fin false m e) p = mul-pos (ltb→lt 0 m p) (up-pos e)
 
+pub plain-positive : (x : Float) → T (plain x) → 0 < num x → T (positive x)
+plain-positive nan p h = absurd p
+plain-positive (inf s) p h = absurd p
+plain-positive (fin true m e) p h = absurd p
+plain-positive (fin false m e) p h = lt→ltb 0 m (first-pos m (up e) h)
+
 pub plain-value : (x : Float) → T (plain x) → HasValue x false (num x) (den x)
 plain-value nan p = absurd p
 plain-value (inf s) p = absurd p
@@ -59,10 +66,6 @@ value-plain (fin true m e) a c h = absurd (true≢false (h .0))
 value-plain (fin false m e) a c h = (tt, h .1)
 
 -- ---- the order
-or-le : (a b : ℕ) (x y : Bool) → (T x → a ≤ b) → (T y → a ≤ b) → T (x || y) → a ≤ b
-or-le a b true y h k t = h tt
-or-le a b false y h k t = k t
-
 pub le-cross : (x y : Float) → T (plain x) → T (plain y) → T (le x y) → num x * den y ≤ num y * den x
 unfolding le
 le-cross nan y p q h = absurd p
@@ -74,7 +77,7 @@ le-cross (fin false m e) (fin true n d) p q h = absurd q
 le-cross (fin false m e) (fin false n d) p q h =
     let a = m * up e * down d in
     let b = n * up d * down e in
-    or-le a b (ltb a b) (eqb a b && true) (λ t. le-trans (le-suc a) (ltb→lt a b t)) (λ t. le-of-eq (eqb→eq a b (and-l (eqb a b) true t))) h
+    or-elim (ltb a b) (eqb a b && true) (λ t. le-trans (le-suc a) (ltb→lt a b t)) (λ t. le-of-eq (eqb→eq a b (and-l (eqb a b) true t))) h
 
 pub cross-le : (x y : Float) → T (plain x) → T (plain y) → num x * den y ≤ num y * den x → T (le x y)
 cross-le x y p q h = le-of-values x y (num x) (den x) (num y) (den y) (den-pos x) (den-pos y) (plain-value x p) (plain-value y q) h

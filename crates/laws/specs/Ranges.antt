@@ -12,19 +12,8 @@ use lib.Ieee.Fits.{up-pos, down-pos, and-l, and-r, and-i, eq→eqb}
 use lib.Ieee.Scale.{finite}
 use lib.Ieee.Positive.{num, den, through, positive}
 use Rattle.laws.specs.Tests.{inRange, inSize}
+use Rattle.laws.specs.Order.{or-elim, or-left, or-right}
 use Rattle.laws.specs.Size.{Within, within-finite, neg-within}
-
-or-elim : {A : Type 0} (x y : Bool) → (T x → A) → (T y → A) → T (x || y) → A
-or-elim true y h k t = h tt
-or-elim false y h k t = k t
-
-or-left : (x y : Bool) → T x → T (x || y)
-or-left true y t = tt
-or-left false y t = absurd t
-
-or-right : (x y : Bool) → T y → T (x || y)
-or-right true y t = tt
-or-right false y t = t
 
 -- ---- ±a ≤ ±b: a bound above for what is not negative, and one below for what is negative
 size-above : (t : Bool) (a b : ℕ) → T (below false a t b || level false a t b) → a ≤ b

@@ -16,7 +16,7 @@ use lib.Ieee.Exact.{HasValue, round-exact}
 use lib.Ieee.Nearest.{closest, nearest-ge, div-same}
 use lib.Ieee.Order.{drop, kept}
 use lib.Ieee.Scale.{grid, round-val, round-under, round-same}
-use lib.Ieee.Positive.{num, den}
+use lib.Ieee.Positive.{num, den, den-pos}
 use Rattle.laws.specs.Plain.{plain, plain-finite, le-cross, value-plain}
 
 -- ---- what `fits` says of a finite value that is not zero
@@ -50,31 +50,42 @@ smallest f (fin s zero e) p t h = absurd (none (0 * up e) (zero-mul (up e)) h)
 smallest f (fin s (suc m) e) p t h =
     le-trans (fitting f s m e t .fine) (le-trans (le-of-eq (sym (one-mul (2 ^ low f)))) (mul-le-mul-right (2 ^ low f) h))
 
--- ---- a value of the format is its own rounding, as a number
+-- ---- a finite value of the format is m * 2 ^ j of its smallest values
+pub record InUnits (f : Format) (x : Float) : Type 0 where
+  pub m : ℕ
+  pub j : ℕ
+  pub value : HasValue x false (m * 2 ^ j) (2 ^ low f)
+  pub few : m < 2 ^ prec f
+  pub under : m * 2 ^ j < 2 ^ (low f + suc (emax f))
+
 pow-le : (i j : ℕ) → 2 ^ i ≤ 2 ^ j → i ≤ j
 pow-le i j h = le-of-suc-le-suc (lt-of-not-le (λ (g : suc j ≤ i). not-le-of-lt (pow-lt g) h))
 
--- 2 ^ e is a whole number of the format's smallest values
 whole : (l : ℕ) (e : ℤ) → down e ≤ 2 ^ l → (j : ℕ) × (up e * 2 ^ l ≡ 2 ^ j * down e)
 whole l (pos k) h = (k + l, simp (mul-one, pow-add))
 whole l (negsuc k) h = (l - suc k, one-mul (2 ^ l) ∙ ap (λ (x : ℕ). 2 ^ x) (sym (back l (suc k) (pow-le (suc k) l h))) ∙ pow-add 2 (l - suc k) (suc k))
 
-own-exact : (f : Format) (m : ℕ) (e : ℤ) → Fitting f m e → HasValue (round f false (m * up e) (down e)) false (m * up e) (down e)
-own-exact f m e F =
+pub in-units : (f : Format) (x : Float) → T (fits f x) → T (plain x) → InUnits f x
+in-units f nan t p = absurd p
+in-units f (inf s) t p = absurd p
+in-units f (fin true m e) t p = absurd p
+in-units f (fin false zero e) t p = record { m = 0; j = 0; value = (refl, simp zero-mul); few = pow-pos (prec f); under = pow-pos (low f + suc (emax f)) }
+in-units f (fin false (suc m) e) t p =
+    let F = fitting f false m e t in
     let l = low f in
     let w = whole l e (F .fine) in
     let j = w .0 in
-    let v : m * up e * 2 ^ l ≡ m * 2 ^ j * down e = mul-assoc m (up e) (2 ^ l) ∙ ap (λ (x : ℕ). m * x) (w .1) ∙ sym (mul-assoc m (2 ^ j) (down e)) in
-    let u : m * 2 ^ j * down e < 2 ^ (l + suc (emax f)) * down e =
+    let v : suc m * up e * 2 ^ l ≡ suc m * 2 ^ j * down e = mul-assoc (suc m) (up e) (2 ^ l) ∙ ap (λ (x : ℕ). suc m * x) (w .1) ∙ sym (mul-assoc (suc m) (2 ^ j) (down e)) in
+    let u : suc m * 2 ^ j * down e < 2 ^ (l + suc (emax f)) * down e =
     subst (λ (x : ℕ). x < 2 ^ (l + suc (emax f)) * down e) v
     (lt-of-lt-of-le (mul-lt-mul-of-pos-right (F .under) (pow-pos l)) (le-of-eq (simp (pow-add, mul-assoc, mul-comm, mul-left-comm)))) in
-    round-exact f false (m * up e) (down e) m j (down-pos e) (F .few) (lt-of-mul-lt-mul-right (down e) u) v
+    record { m = suc m; j = j; value = (refl, v); few = F .few; under = lt-of-mul-lt-mul-right (down e) u }
 
+-- it is its own rounding, as a number
 pub round-own : (f : Format) (x : Float) → T (fits f x) → T (plain x) → HasValue (round f false (num x) (den x)) false (num x) (den x)
-round-own f nan t p = absurd p
-round-own f (inf s) t p = absurd p
-round-own f (fin s zero e) t p = round-exact f false (0 * up e) (down e) 0 0 (down-pos e) (pow-pos (prec f)) (pow-pos (low f + suc (emax f))) (simp zero-mul)
-round-own f (fin s (suc m) e) t p = own-exact f (suc m) e (fitting f s m e t)
+round-own f x t p =
+    let U = in-units f x t p in
+    round-exact f false (num x) (den x) (U .m) (U .j) (den-pos x) (U .few) (U .under) (value-plain x (U .m * 2 ^ U .j) (2 ^ low f) (U .value) .1)
 
 -- ---- a value of the format is known by its fraction, since its bit pattern is
 bits-same : (f : Format) (x y : Float) → T (plain x) → T (plain y) → num x * den y ≡ num y * den x → toBits f x ≡ toBits f y

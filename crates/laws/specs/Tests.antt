@@ -8,7 +8,7 @@ unfoldable pub inRange : Float → Float → Float → Bool
 unfolding le
 inRange low high x = le low x && le x high
 
--- not "above bound in size": for a finite bound only finite values pass
+-- not "above bound in size", from −bound to bound: for a finite bound only finite values pass (`in-size-finite`)
 unfoldable pub inSize : Float → Float → Bool
 unfolding inRange neg
 inSize bound x = inRange (neg bound) bound x

@@ -2,7 +2,6 @@
 use Prim.Native.Nat.{ℕ, _+_, _-_, _*_, _≤_, _<_}
 use mathlib.Core.Path.{_≡_}
 use mathlib.Core.List.{List}
-use native.Mathlib.Omega.{arith}
 use lib.ListN.{length, getD}
 use Rattle.complex.specs.Lists.{tabulate, length-tabulate, getD-tabulate}
 use Rattle.level.specs.Level.{Level, psk}

@@ -1,6 +1,6 @@
 -- The PSK rows of hf/level.rs, and the one that a bandwidth and a record choose (01, "Layouts"). Definitions only.
 use Prim.Native.Nat.{ℕ}
-use mathlib.Core.Bool.{Bool, true, _&&_, _||_, cond}
+use mathlib.Core.Bool.{Bool, _&&_, _||_, cond}
 use mathlib.Core.List.{List, [], _∷_}
 use lib.Dec.{leb, eqb}
 use Rattle.refusal.specs.Outcome.{Outcome, refused, answered}

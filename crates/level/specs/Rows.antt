@@ -79,6 +79,10 @@ is-layout hz rec l e =
     let same : chosen (l .bandwidth) (l .rec) ≡ chosen hz rec = rw (a, b) in
     same ∙ e
 
+-- there is one for a bandwidth and a record
+pub same-layout : (l m : Layout) → IsLayout l → IsLayout m → l .bandwidth ≡ m .bandwidth → l .rec ≡ m .rec → l ≡ m
+same-layout l m i j a b = cc
+
 module _ (l : Layout) (i : IsLayout l) where
   -- the rule of a test over the layouts
   pub layout-rule : (f : Layout → Bool) → T (every (λ m. f (layoutOf m)) levels) → T (f l)

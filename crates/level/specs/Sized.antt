@@ -1,20 +1,21 @@
 -- The sizes of a layout: facts that hold of each of the fifteen, computed over the rows.
 use Prim.Native.Nat.{ℕ, _+_, _*_, _≤_, _<_}
-use mathlib.Core.Path.{_≡_, sym, _∙_}
+use mathlib.Core.Path.{_≡_}
 use mathlib.Core.Bool.{Bool}
 use native.Mathlib.Omega.{arith}
 use native.Mathlib.Nat.{mul-le-mul}
-use lib.Dec.{T, leb, eqb, leb→le, eqb→eq}
+use lib.Dec.{leb, eqb, leb→le, eqb→eq}
 use lib.ListN.{getD}
 use Rattle.refusal.specs.Outcome.{answered}
 use Rattle.level.specs.declared.Layout.{Layout}
-use Rattle.level.specs.Level.{Level, levels, levelOf}
-use Rattle.level.specs.Layout.{carrierCount, stagger, greatestStagger, layoutOf}
+use Rattle.level.specs.Level.{Level, levelOf}
+use Rattle.level.specs.Layout.{carrierCount, tapCount, pulseOf, stagger, greatestStagger, layoutOf}
 use Rattle.level.specs.Lengths.{carrierHz, cells, rowLength, memoryLength}
 use Rattle.level.specs.Tested.{below, below-at}
 use Rattle.level.specs.Rows.{IsLayout, row-rule, layout-rule, at-most, equal}
 
--- free of differences, for linear arithmetic
+-- free of differences, for linear arithmetic, which finds the rest: keep is 15232 to 18496, dead 11008 to 14272, and
+-- greatest stagger + 32 × (nsym − 1) + 4032 and 4000 + 2 × delay are at most keep
 pub record Sized (l : Layout) : Type 0 where
   pub nc-least : 2 ≤ l .nc
   pub nc-most : l .nc ≤ 13
@@ -70,14 +71,14 @@ sized l i =
     }
 
 -- the carriers that a row writes out are first_hz + c × spacing_hz
-inStep : Level → ℕ → Bool
-inStep m c = eqb (getD (m .carriers) c 0) (carrierHz (layoutOf m) c)
+isSpaced : Level → ℕ → Bool
+isSpaced m c = eqb (getD (m .carriers) c 0) (carrierHz (layoutOf m) c)
 
 pub carriers-even : (hz rec : ℕ) (m : Level) → levelOf hz rec ≡ answered m → (c : ℕ) → c < carrierCount m
     → getD (m .carriers) c 0 ≡ carrierHz (layoutOf m) c
-unfolding layoutOf carrierHz inStep
+unfolding layoutOf carrierHz isSpaced
 carriers-even hz rec m e c h =
-    eqb→eq _ _ (below-at (inStep m) (carrierCount m) (row-rule hz rec m (λ x. below (inStep x) (carrierCount x)) tt e) c h)
+    eqb→eq _ _ (below-at (isSpaced m) (carrierCount m) (row-rule hz rec m (λ x. below (isSpaced x) (carrierCount x)) tt e) c h)
 
 inBand : Layout → ℕ → Bool
 inBand l c = leb (carrierHz l c) 2760
@@ -87,12 +88,12 @@ unfolding layoutOf carrierHz inBand
 carrier-most l i c h = leb→le _ _ (below-at (inBand l) (l .nc) (layout-rule l i (λ x. below (inBand x) (x .nc)) tt) c h)
 
 -- no carrier's stagger is above the greatest
-early : Layout → ℕ → Bool
-early l c = leb (stagger (l .nc) c) (l .«max_stagger»)
+isWithin : Layout → ℕ → Bool
+isWithin l c = leb (stagger (l .nc) c) (l .«max_stagger»)
 
 pub stagger-within : (l : Layout) → IsLayout l → (c : ℕ) → c < l .nc → stagger (l .nc) c ≤ l .«max_stagger»
-unfolding layoutOf greatestStagger stagger early
-stagger-within l i c h = leb→le _ _ (below-at (early l) (l .nc) (layout-rule l i (λ x. below (early x) (x .nc)) tt) c h)
+unfolding layoutOf greatestStagger stagger isWithin
+stagger-within l i c h = leb→le _ _ (below-at (isWithin l) (l .nc) (layout-rule l i (λ x. below (isWithin x) (x .nc)) tt) c h)
 
 -- a row of at most four frames
 pub row-most : (l : Layout) → IsLayout l → (frames : ℕ) → frames ≤ 4 → rowLength l frames ≤ 1809
@@ -100,3 +101,8 @@ unfolding rowLength
 row-most l i frames h =
     let s : Sized l = sized l i in
     omega (arith, mul-le-mul h (s .nsym-most))
+
+-- the pulse of a layout has the layout's taps
+pub pulse-taps : (l : Layout) → IsLayout l → l .taps ≡ tapCount (pulseOf (l .taps))
+unfolding layoutOf
+pulse-taps l i = equal l i (λ x. x .taps) (λ x. tapCount (pulseOf (x .taps))) tt

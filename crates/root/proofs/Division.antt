@@ -1,4 +1,4 @@
--- A root of more digits by a division: the numbers of `longer_root`. a is the root of a number, with rem left over, and s, hi and lo are the scale and the two digits, to the base s, that come down.
+-- A root of more digits by a division, as in Zimmermann's Karatsuba square root: the numbers of `longer_root`. a is the root of a number, with rem left over, and s, hi and lo are the scale and the two digits, to the base s, that come down.
 -- Assumes nothing.
 use mathlib.Core.Path.{_≡_, refl, sym, ap, _∙_}
 use Prim.Native.Nat.{ℕ, zero, suc, _+_, _-_, _*_, _/_, _%_, _^_, _≤_, _<_, zero-le}

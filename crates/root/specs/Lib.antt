@@ -1,4 +1,9 @@
 pub mod Root
 pub mod Unit
+pub mod Examples
 pub mod Squares
 pub mod RootUnits
+pub mod Rooted
+pub mod Nearest
+pub mod RootFacts
+pub mod NormLaws

@@ -11,6 +11,7 @@ unfoldable pub rootIn : ℕ → ℕ → ℕ
 rootIn zero n = 0
 rootIn (suc d) n = let r = 2 * rootIn d (n / 4) in cond (leb ((r + 1) * (r + 1)) n) (r + 1) r
 
+-- the whole part of √n, for any n: n is below 2 ^ size n
 unfoldable pub wholeRoot : ℕ → ℕ
 unfolding rootIn size
 wholeRoot n = rootIn (size n) n

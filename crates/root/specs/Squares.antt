@@ -33,6 +33,9 @@ square-strict a b h = lt-of-lt-of-le (grows (a * a) ((a + 1) * (a + 1)) a (next-
 pub root-lt : (a b : ℕ) → a * a < b * b → a < b
 root-lt a b h = lt-of-not-le (λ (g : b ≤ a). not-le-of-lt h (square-mono b a g))
 
+pub root-le-root : (a b : ℕ) → a * a ≤ b * b → a ≤ b
+root-le-root a b h = le-of-suc-le-suc (lt-of-not-le (λ (g : suc b ≤ a). not-le-of-lt (square-strict b a g) h))
+
 pub root-le : (a b n : ℕ) → a * a ≤ n → n < (b + 1) * (b + 1) → a ≤ b
 root-le a b n h k = le-of-suc-le-suc (subst (λ (x : ℕ). a < x) (add-one b) (root-lt a (b + 1) (lt-of-le-of-lt h k)))
 

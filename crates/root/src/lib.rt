@@ -15,9 +15,9 @@ const INFINITY: u64 = 0x7ff0_0000_0000_0000;
 const HIDDEN: u64 = 0x10_0000_0000_0000;
 
 // The whole part of a number's root, and the remainder: what the number is above the root's square.
-pub struct SqrtRem {
-    pub root: u64,
-    pub rem: u64,
+struct SqrtRem {
+    root: u64,
+    rem: u64,
 }
 
 // The root of a number of 28 digits: two digits of n come down a turn, and the root gets one digit.

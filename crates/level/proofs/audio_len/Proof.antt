@@ -1,12 +1,11 @@
 -- `level::audio_len` meets its contract: the greatest stagger is at most 21. Assumes nothing.
-use native.Mathlib.Omega.{arith}
 use Rattle.level.specs.Lengths.{audioLength}
 use Rattle.level.specs.Sized.{sized}
 use Rattle.level.proofs.audio_len.Statement.{statement}
 use Rattle.level.proofs.audio_len.Tie as tie
 
 audio-of-requires : tie.Need-audio-of-requires
-audio-of-requires c κs = (c .pre .0, c .pre .1, sized (c .args .l) (c .pre .0) .stagger-most)
+audio-of-requires c κs = (c .pre .0, c .pre .1, sized _ (c .pre .0) .stagger-most)
 
 returns : tie.Need-returns
 unfolding audioLength

@@ -9,27 +9,22 @@ row-len-requires : tie.Need-row-len-requires
 row-len-requires c κs = search needs
 
 mul-result : tie.Need-mul-result
-mul-result c =
-    omega (arith, row-most (c .before .args .l) (c .before .pre .0) (c .before .args .frames) (c .before .pre .1), sized (c .before .args .l) (c .before .pre .0))
+mul-result c = omega (arith, row-most _ (c .before .pre .0) _ (c .before .pre .1), sized _ (c .before .pre .0))
 
 add-result : tie.Need-add-result
-add-result c =
-    omega (arith, row-most (c .before .args .l) (c .before .pre .0) (c .before .args .frames) (c .before .pre .1), sized (c .before .args .l) (c .before .pre .0))
+add-result c = omega (arith, row-most _ (c .before .pre .0) _ (c .before .pre .1), sized _ (c .before .pre .0))
 
 add-result-2 : tie.Need-add-result-2
-add-result-2 c =
-    omega (arith, row-most (c .before .args .l) (c .before .pre .0) (c .before .args .frames) (c .before .pre .1), sized (c .before .args .l) (c .before .pre .0))
+add-result-2 c = omega (arith, row-most _ (c .before .pre .0) _ (c .before .pre .1), sized _ (c .before .pre .0))
 
 sub-result : tie.Need-sub-result
-sub-result c = omega (arith, sized (c .before .args .l) (c .before .pre .0) .taps-are)
+sub-result c = omega (arith, sized _ (c .before .pre .0) .taps-are)
 
 mul-result-2 : tie.Need-mul-result-2
-mul-result-2 c =
-    omega (arith, row-most (c .before .args .l) (c .before .pre .0) (c .before .args .frames) (c .before .pre .1), sized (c .before .args .l) (c .before .pre .0))
+mul-result-2 c = omega (arith, row-most _ (c .before .pre .0) _ (c .before .pre .1), sized _ (c .before .pre .0))
 
 add-result-3 : tie.Need-add-result-3
-add-result-3 c =
-    omega (arith, row-most (c .before .args .l) (c .before .pre .0) (c .before .args .frames) (c .before .pre .1), sized (c .before .args .l) (c .before .pre .0))
+add-result-3 c = omega (arith, row-most _ (c .before .pre .0) _ (c .before .pre .1), sized _ (c .before .pre .0))
 
 returns : tie.Need-returns
 returns c = search needs

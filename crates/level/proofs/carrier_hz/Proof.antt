@@ -7,12 +7,12 @@ use Rattle.level.proofs.carrier_hz.Tie as tie
 
 mul-result : tie.Need-mul-result
 unfolding carrierHz
-mul-result c = omega (arith, carrier-most (c .before .args .l) (c .before .pre .0) (c .before .args .c) (c .before .pre .1))
+mul-result c = omega (arith, carrier-most _ (c .before .pre .0) _ (c .before .pre .1))
 
 add-result : tie.Need-add-result
 unfolding carrierHz
 add-result c =
-    omega (arith, carrier-most (c .before .before .args .l) (c .before .before .pre .0) (c .before .before .args .c) (c .before .before .pre .1))
+    omega (arith, carrier-most _ (c .before .before .pre .0) _ (c .before .before .pre .1))
 
 returns : tie.Need-returns
 unfolding carrierHz

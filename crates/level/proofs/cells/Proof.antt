@@ -6,10 +6,10 @@ use Rattle.level.proofs.cells.Statement.{statement}
 use Rattle.level.proofs.cells.Tie as tie
 
 sub-result : tie.Need-sub-result
-sub-result c = omega (arith, sized (c .before .args .l) (c .before .pre))
+sub-result c = omega (arith, sized _ (c .before .pre))
 
 sub-result-2 : tie.Need-sub-result-2
-sub-result-2 c = omega (arith, sized (c .before .before .args .l) (c .before .before .pre))
+sub-result-2 c = omega (arith, sized _ (c .before .before .pre))
 
 returns : tie.Need-returns
 unfolding cells

@@ -5,7 +5,7 @@ use mathlib.Core.Bool.{and-false}
 use native.Mathlib.Omega.{arith}
 use borrow.Author.Needs.{needs}
 use borrow.Author.Tests.{ne-eqb, le-leb, lt-leb}
-use Rattle.refusal.specs.Outcome.{Outcome, refused, answered}
+use Rattle.refusal.specs.Outcome.{refused, answered}
 use Rattle.complex.specs.Lists.{tabulate}
 use Rattle.level.specs.declared.Layout.{Layout}
 use Rattle.level.specs.Level.{levelOf}

@@ -1,12 +1,12 @@
 -- `level::max_stagger` meets its contract: the greatest stagger of each count of carriers below 14, computed. Assumes nothing.
 use Prim.Native.Nat.{ℕ, _+_, _-_, _≤_, _<_}
-use mathlib.Core.Path.{_≡_, sym, ap}
-use mathlib.Core.Bool.{Bool, true, false, cond}
+use mathlib.Core.Path.{_≡_, sym}
+use mathlib.Core.Bool.{Bool, false, cond}
 use native.Mathlib.Omega.{arith}
-use lib.Dec.{T, eqb, eqb→eq}
+use lib.Dec.{eqb, eqb→eq}
 use borrow.Author.Tests.{ne-eqb}
 use Rattle.level.specs.Layout.{stagger, greatestStagger}
-use Rattle.level.specs.Tested.{below, below-at}
+use Rattle.level.specs.Tested.{below-at}
 use Rattle.level.proofs.max_stagger.Statement.{statement}
 use Rattle.level.proofs.max_stagger.Tie as tie
 

@@ -6,20 +6,20 @@ use Rattle.level.proofs.memory_len.Statement.{statement}
 use Rattle.level.proofs.memory_len.Tie as tie
 
 mul-result : tie.Need-mul-result
-mul-result c = omega (arith, sized (c .before .args .l) (c .before .pre))
+mul-result c = omega (arith, sized _ (c .before .pre))
 
 add-result : tie.Need-add-result
-add-result c = omega (arith, sized (c .before .args .l) (c .before .pre))
+add-result c = omega (arith, sized _ (c .before .pre))
 
 mul-result-2 : tie.Need-mul-result-2
-mul-result-2 c = omega (arith, sized (c .before .args .l) (c .before .pre))
+mul-result-2 c = omega (arith, sized _ (c .before .pre))
 
 add-result-2 : tie.Need-add-result-2
-add-result-2 c = omega (arith, sized (c .before .args .l) (c .before .pre))
+add-result-2 c = omega (arith, sized _ (c .before .pre))
 
 mul-result-3 : tie.Need-mul-result-3
 unfolding memoryLength
-mul-result-3 c = omega (arith, sized (c .before .args .l) (c .before .pre) .memory-most)
+mul-result-3 c = omega (arith, sized _ (c .before .pre) .memory-most)
 
 returns : tie.Need-returns
 unfolding memoryLength

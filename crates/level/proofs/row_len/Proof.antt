@@ -7,11 +7,11 @@ use Rattle.level.proofs.row_len.Tie as tie
 
 mul-result : tie.Need-mul-result
 unfolding rowLength
-mul-result c = omega (arith, row-most (c .before .args .l) (c .before .pre .0) (c .before .args .frames) (c .before .pre .1))
+mul-result c = omega (arith, row-most _ (c .before .pre .0) _ (c .before .pre .1))
 
 add-result : tie.Need-add-result
 unfolding rowLength
-add-result c = omega (arith, row-most (c .before .args .l) (c .before .pre .0) (c .before .args .frames) (c .before .pre .1))
+add-result c = omega (arith, row-most _ (c .before .pre .0) _ (c .before .pre .1))
 
 returns : tie.Need-returns
 unfolding rowLength

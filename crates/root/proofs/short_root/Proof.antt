@@ -1,4 +1,4 @@
--- `root::short_root` meets its contract. The loop's invariant: t with i pairs of zeros below it is the square of the root so far plus the remainder, in front of what is left of t.
+-- `root::short_root` meets its contract. The loop's invariant: n with i pairs of zeros below it is the square of the root so far plus the remainder, in front of what is left of n.
 -- The remainder is at most twice the root, so no larger root will do. Assumes nothing.
 use mathlib.Core.Path.{_≡_, sym, ap, _∙_, subst}
 use mathlib.Core.Logic.{_⊎_, inl, inr, ⊎-elim}
@@ -11,7 +11,7 @@ use Rattle.root.specs.Squares.{RootRem}
 use Rattle.root.proofs.short_root.Statement.{statement}
 use Rattle.root.proofs.short_root.Tie as tie
 
--- t * 4 ^ i and 2 ^ i at the next i
+-- m * 4 ^ i and 2 ^ i at the next i
 next : (m i : ℕ) → m * 4 ^ (i + 1) ≡ 4 * (m * 4 ^ i)
 next m i = ap (λ (k : ℕ). m * 4 ^ k) (add-one i) ∙ ap (λ (x : ℕ). m * x) (pow-succ' 4 i) ∙ mul-left-comm m 4 (4 ^ i)
 
@@ -66,7 +66,7 @@ abbrev μ-loop : tie.MeasureT-loop
 digit : (c : tie.Joined1 Inv-loop μ-loop) → Digit (c .before .before .loop .root * 4 + 1) (c .before .before .loop .rem * 4 + c .before .before .loop .left / 2 ^ 26) (c .if1 .bit)
 digit c = ⊎-elim (λ w. inl (w .0 .taken, w .1)) (λ w. inr (w .0 .left, w .1)) (c .if1 .came)
 
--- at the end nothing is left of t
+-- at the end nothing is left of n
 ends : (t g rem left : ℕ) → Inv t g rem left 14 → RootRem t g rem
 ends t g rem left inv = record { sum = omega arith; small = inv .2 }
 

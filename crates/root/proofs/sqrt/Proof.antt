@@ -1,4 +1,4 @@
--- `root::sqrt` meets its contract. Assumes nothing.
+-- `root::sqrt` meets its contract: each special case is the definition's, and what is left is finite and above zero. Assumes nothing.
 use mathlib.Core.Path.{_≡_, refl, sym, ap, _∙_, subst}
 use Prim.Native.Nat.{ℕ, zero, suc, _+_, _*_, _/_, _%_, _≤_, _<_}
 use native.Mathlib.Nat.{zero-mul, mul-pos, zero-lt-suc, le-add-right, lt-of-lt-of-le}
@@ -6,10 +6,11 @@ use native.Mathlib.Omega.{arith}
 use mathlib.Core.Bool.{Bool, true, false, not, cond, true≢false, false≢true}
 use lib.IntN.{ℤ}
 use lib.Dec.{T, leb, ltb, eqb, leb→le, ltb→lt, lt→ltb, nleb→lt, not-T}
-use lib.Ieee.{Float, nan, inf, fin, binary64, up, down, lt, ne, div, odd, ofFields, ofBits, toBits, nanBits, isNan}
+use lib.Ieee.{Float, nan, inf, fin, binary64, up, down, lt, div, odd, ofFields, ofBits, toBits, nanBits}
 use lib.Ieee.Bits.{is-true, ofBits-toBits, nanBits-above}
 use lib.Ieee.Fits.{up-pos, eq→eqb}
-use lib.Ieee.Compare.{differs-from-itself, nan-differs}
+use lib.Ieee.Compare.{differs-from-itself}
+use Rattle.laws.specs.Order.{number-by}
 use Rattle.root.specs.Root.{sqrtOf}
 use Rattle.root.proofs.Patterns.{ofBits-is, plus}
 use borrow.Author.Needs.{needs}
@@ -102,12 +103,6 @@ at-nan : nan ≡ sqrtOf nan
 unfolding sqrtOf
 at-nan = refl
 
-no-nan : (x : Float) → ne x x ≡ false → T (not (isNan x))
-unfolding isNan
-no-nan nan h = absurd (true≢false (sym nan-differs ∙ h))
-no-nan (inf s) h = tt
-no-nan (fin s m e) h = tt
-
 no-nan-bits : (r : ℕ) → r < 9218868437227405312 → T (not (nanBits binary64 r))
 no-nan-bits r h =
     subst (λ (b : Bool). T (not b)) (sym (nanBits-above binary64 r))
@@ -127,7 +122,7 @@ returns-2 : tie.Need-returns-2
 returns-2 c = below-zero (c .before .before .args .x) (c .if2 .taken)
 
 float-to-bits-b : tie.Need-float-to-bits-b
-float-to-bits-b c = no-nan (c .before .before .args .x) (c .before .if1 .left)
+float-to-bits-b c = number-by (c .before .before .args .x) (c .before .if1 .left)
 
 returns-3 : tie.Need-returns-3
 returns-3 c = subst (λ (v : Float). v ≡ sqrtOf v) (ap (ofBits binary64) (sym (c .if3 .taken)) ∙ held (c .before .before .before)) at-zero

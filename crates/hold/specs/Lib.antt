@@ -1,0 +1,6 @@
+pub mod Offer
+pub mod History
+pub mod Releases
+pub mod HistoryRule
+pub mod LoneOffer
+pub mod Cases

@@ -1,0 +1,93 @@
+-- A lone offer (01, "Where each fault is met", condition 21): its answer, and the hold after it. Definitions, and what no fault says.
+use mathlib.Core.Path.{_≡_, refl, sym}
+use mathlib.Core.Bool.{Bool, true, false, not, _||_}
+use mathlib.Core.List.{List, [], _∷_}
+use Prim.Native.Nat.{ℕ, _^_}
+use native.Mathlib.Omega.{arith}
+use lib.Dec.{ltb}
+use lib.Ieee.Scale.{finite}
+use borrow.Author.Tests.{ltb-false}
+use Rattle.laws.specs.Order.{clash}
+use Rattle.refusal.specs.declared.Position.{Position}
+use Rattle.refusal.specs.declared.Fault.{Fault}
+use Rattle.refusal.specs.declared.Fault.the-variants.{Clear, Met}
+use Rattle.refusal.specs.declared.Refusal.the-variants.{Offer}
+use Rattle.refusal.specs.Refusal.{numberOf}
+use Rattle.refusal.specs.Outcome.{Outcome, refused, answered, firstFault, judged}
+use Rattle.hold.specs.declared.Held.{Held}
+use Rattle.hold.specs.declared.Held.the-variants.{Empty, At}
+use Rattle.hold.specs.declared.Candidate.{Candidate}
+use Rattle.hold.specs.declared.Candidate.the-variants.{NoCandidate, Metric}
+use Rattle.hold.specs.declared.Release.{Release}
+use Rattle.hold.specs.declared.Hold.{Hold}
+use Rattle.hold.specs.declared.Offered.{Offered}
+use Rattle.hold.specs.declared.LoneAnswer.{LoneAnswer}
+use Rattle.hold.specs.declared.LoneAnswer.the-variants.{Refused, Answered}
+use Rattle.hold.specs.Offer.{offered, Room}
+
+-- "outside 0 to 2^48"
+abbrev pub outside : ℕ → Bool
+outside n = ltb (2 ^ 48) n
+
+-- the held position, or the held metric
+unfoldable pub badHeld : Held → Bool
+badHeld Empty = false
+badHeld (At b m) = outside (b .0) || not (finite m)
+
+-- the offered metric
+unfoldable pub badCandidate : Candidate → Bool
+badCandidate NoCandidate = false
+badCandidate (Metric m) = not (finite m)
+
+-- 21: "hold, dead, offered or held position outside 0 to 2^48, or either metric not finite"
+unfoldable pub badOffer : Hold → Position → Candidate → Bool
+badOffer h p c = outside (h .hold) || (outside (h .dead) || (outside (p .0) || (badHeld (h .best) || badCandidate c)))
+
+unfoldable pub loneFault : Hold → Position → Candidate → Fault
+loneFault h p c = firstFault ((Offer, badOffer h p c) ∷ [])
+
+-- the number and the values of each answer
+unfoldable pub outcome : LoneAnswer → Outcome Release
+outcome (Refused r) = refused (numberOf r)
+outcome (Answered r) = answered r
+
+-- "After a refusal nothing lent has changed"
+unfoldable pub unlessMet : Fault → Hold → Hold → Hold
+unlessMet Clear next h = next
+unlessMet (Met r) next h = h
+
+-- a lone offer to h, which answers and leaves the hold `next`
+pub record LoneOffers (h : Hold) (p : Position) (c : Candidate) (answer : LoneAnswer) (next : Hold) : Type 0 where
+  pub answers : outcome answer ≡ judged (loneFault h p c) (answered (offered h p c .release))
+  pub leaves : next ≡ unlessMet (loneFault h p c) (offered h p c .next) h
+
+or-left : (a b : Bool) → a || b ≡ false → a ≡ false
+or-left true b e = e
+or-left false b e = refl
+
+or-right : (a b : Bool) → a || b ≡ false → b ≡ false
+or-right true b e = clash (sym e)
+or-right false b e = e
+
+room : (best : Held) (dead : ℕ) → outside dead ≡ false → badHeld best ≡ false → Room best dead
+unfolding badHeld
+room Empty dead d e = tt
+room (At b m) dead d e =
+    omega (arith, ltb-false (2 ^ 48) dead d, ltb-false (2 ^ 48) (b .0) (or-left (outside (b .0)) (not (finite m)) e))
+
+module _ (h : Hold) (p : Position) (c : Candidate) where
+  -- an offer that meets no 21 is one that `offer` takes
+  pub lone-room : badOffer h p c ≡ false → Room (h .best) (h .dead)
+  unfolding badOffer
+  lone-room e =
+      let e₁ : (outside (h .dead) || (outside (p .0) || (badHeld (h .best) || badCandidate c))) ≡ false = or-right (outside (h .hold)) _ e in
+      let e₂ : (outside (p .0) || (badHeld (h .best) || badCandidate c)) ≡ false = or-right (outside (h .dead)) _ e₁ in
+      room (h .best) (h .dead) (or-left (outside (h .dead)) _ e₁) (or-left (badHeld (h .best)) _ (or-right (outside (p .0)) _ e₂))
+
+  pub lone-refused : badOffer h p c ≡ true → LoneOffers h p c (Refused Offer) h
+  unfolding loneFault outcome unlessMet
+  lone-refused e = record { answers = rw e; leaves = rw e }
+
+  pub lone-answered : (o : Offered) → badOffer h p c ≡ false → o ≡ offered h p c → LoneOffers h p c (Answered (o .release)) (o .next)
+  unfolding loneFault outcome unlessMet
+  lone-answered o e k = record { answers = rw (e, k); leaves = rw (e, k) }

@@ -1,0 +1,34 @@
+-- What a call knows that has met no fault. Assumes nothing.
+use Prim.Native.Nat.{ℕ, _*_}
+use mathlib.Core.Path.{_≡_, refl}
+use mathlib.Core.Bool.{Bool, true, false, not, _||_}
+use mathlib.Core.List.{List}
+use native.Mathlib.Omega.{arith}
+use lib.Dec.{eqb}
+use lib.ListN.{length}
+use lib.Ieee.{Float}
+use borrow.Author.Tests.{eqb-true, not-false}
+use Rattle.refusal.specs.declared.Refusal.{Refusal}
+use Rattle.refusal.specs.declared.Fault.{Fault}
+use Rattle.refusal.specs.declared.Fault.the-variants.{Clear}
+use Rattle.refusal.specs.Outcome.{firstOf}
+use Rattle.level.specs.declared.Layout.{Layout}
+use Rattle.nco.specs.Nco.{wrongBuffers, ncoFault}
+
+-- neither of two conditions
+pub neither : (a b : Bool) → (a || b) ≡ false → (a ≡ false) × (b ≡ false)
+neither false b h = (refl, h)
+neither true b h = absurd (let z : _≡_ {A = ℕ} 0 1 = cc in omega arith)
+
+-- neither a row's condition nor those below it
+pub clear-first : (r : Refusal) (b : Bool) (rest : Fault) → firstOf r b rest ≡ Clear → (b ≡ false) × (rest ≡ Clear)
+clear-first r false rest h = (refl, h)
+clear-first r true rest h = absurd (let z : _≡_ {A = ℕ} 0 1 = cc in omega arith)
+
+pub lengths-of : (l : Layout) (window : ℕ) (phases out : List Float) → ncoFault l window phases out ≡ Clear
+    → (length phases ≡ l .nc) × (length out ≡ l .nc * window)
+unfolding ncoFault wrongBuffers
+lengths-of l window phases out h =
+    let a = clear-first _ (wrongBuffers l window phases out) _ h in
+    let b = neither (not (eqb (length phases) (l .nc))) (not (eqb (length out) (l .nc * window))) (a .0) in
+    (eqb-true _ _ (not-false _ (b .0)), eqb-true _ _ (not-false _ (b .1)))

@@ -1,0 +1,6 @@
+pub mod Rows
+pub mod Phase
+pub mod PhaseLaws
+pub mod WindowCall
+pub mod Nco
+pub mod Accepted

@@ -1,0 +1,40 @@
+-- What a call over a window of places answers, and what it leaves in the lent phases and in the lent out buffer.
+use Prim.Native.Nat.{ℕ}
+use mathlib.Core.Path.{_≡_, refl}
+use mathlib.Core.List.{List}
+use lib.Ieee.{Float}
+use Rattle.refusal.specs.declared.Refusal.{Refusal}
+use Rattle.refusal.specs.Refusal.{numberOf}
+use Rattle.refusal.specs.Outcome.{Outcome, refused, answered, andThen}
+use Rattle.level.specs.declared.Layout.{Layout}
+use Rattle.nco.specs.declared.Answer.{Answer}
+use Rattle.nco.specs.declared.Answer.the-variants.{Done, Refused}
+use Rattle.nco.specs.Phase.{phasesAfter}
+
+-- the code's answer in 01's terms: it has no values
+abbrev pub outcome : Answer → Outcome Unit
+outcome Done = answered tt
+outcome (Refused r) = refused (numberOf r)
+
+abbrev pub done : {A : Type 0} → Outcome A → Outcome Unit
+done o = andThen o (λ a. answered tt)
+
+-- what a lent buffer holds after a call: "After a refusal nothing lent has changed"
+abbrev pub after : {A B : Type 0} → Outcome A → (A → B) → B → B
+after (refused k) f b = b
+after (answered a) f b = f a
+
+-- `accepted` is the layout of a call that meets no fault, or its refusal; `out-of` is what out then holds
+pub record WindowCall (accepted : Outcome Layout) (window : ℕ) (phases out : List Float) (out-of : Layout → List Float) (r : Answer) (phases-then out-then : List Float) : Type 0 where
+  pub answer : outcome r ≡ done accepted
+  pub phases-are : phases-then ≡ after accepted (λ l. phasesAfter l window phases) phases
+  pub out-is : out-then ≡ after accepted out-of out
+
+-- ---- the two ways to meet it
+module _ (accepted : Outcome Layout) (window : ℕ) (phases out : List Float) (out-of : Layout → List Float) where
+  pub call-refused : (r : Refusal) → accepted ≡ refused (numberOf r) → WindowCall accepted window phases out out-of (Refused r) phases out
+  call-refused r e = rw e (record { answer = refl; phases-are = refl; out-is = refl })
+
+  pub call-done : (l : Layout) (phases-then out-then : List Float) → accepted ≡ answered l → phases-then ≡ phasesAfter l window phases → out-then ≡ out-of l
+      → WindowCall accepted window phases out out-of Done phases-then out-then
+  call-done l phases-then out-then e p q = rw e (record { answer = refl; phases-are = p; out-is = q })
