@@ -1,11 +1,11 @@
 -- A slice with n entries from a place on replaced, and what a loop that fills cells in turn cites of it.
 use Prim.Native.Nat.{ℕ, zero, suc, _+_, _<_, _≤_}
-use mathlib.Core.Path.{_≡_, refl, sym, ap, _∙_}
+use mathlib.Core.Path.{_≡_, refl, _∙_}
 use mathlib.Core.List.{List}
 use native.Mathlib.Omega.{arith}
 use native.Mathlib.Numerals.{add-one}
 use lib.ListN.{length, set, length-set}
-use Rattle.complex.specs.Lists.{filled, filled-length, filled-step}
+use Rattle.complex.specs.Lists.{filled, filled-step}
 
 -- the list with its n entries from place `at` on replaced by f's
 unfoldable pub filledFrom {ℓ} : {A : Type ℓ} → ℕ → (ℕ → A) → ℕ → List A → List A

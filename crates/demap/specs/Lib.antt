@@ -8,3 +8,5 @@ pub mod SoftLaws
 pub mod PskLaws
 pub mod Cases
 pub mod PskCandidates
+pub mod Gain
+pub mod GainLaws

@@ -3,12 +3,10 @@ use Prim.Native.Nat.{ℕ, zero, suc, _+_, _*_, _≤_, _<_}
 use mathlib.Core.Path.{_≡_, refl}
 use mathlib.Core.Logic.{⊎-elim}
 use mathlib.Core.Bool.{Bool, true, false, cond}
-use mathlib.Core.List.{List}
 use native.Mathlib.Nat.{le-refl, eq-or-lt-of-le, le-of-suc-le-suc, not-suc-le-zero}
 use native.Mathlib.Numerals.{add-one}
 use native.Mathlib.Omega.{arith}
 use lib.Dec.{T}
-use lib.ListN.{length}
 use lib.Ieee.{Float, nan, inf, fin, binary64, sub, lt, le, isNan, fits}
 use lib.Ieee.Positive.{num, den}
 use Rattle.complex.specs.declared.Complex.{Complex}
@@ -18,7 +16,7 @@ use Rattle.laws.specs.Plain.{plain, cross-le}
 use Rattle.laws.specs.Size.{Within, sub-within}
 use Rattle.root.specs.NormLaws.{norm-sqr-plain, norm-sqr-fits}
 use Rattle.demap.specs.declared.Closest.{Closest}
-use Rattle.demap.specs.Nearest.{distSqr, pointAt, closest, nearestOf, nearest}
+use Rattle.demap.specs.Nearest.{distSqr, closest, nearestOf}
 
 -- ---- distances
 -- a complex number with parts of at most 2 ^ k

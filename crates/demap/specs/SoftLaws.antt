@@ -1,15 +1,14 @@
 -- The sign bit of soft bit b is bit b of the nearest label, once over the size of the alphabet. Assumes nothing.
-use Prim.Native.Nat.{ℕ, zero, suc, _+_, _-_, _*_, _/_, _%_, _^_, _≤_, _<_}
-use mathlib.Core.Path.{_≡_, refl, sym, ap, _∙_, subst}
-use mathlib.Core.Bool.{Bool, true, false, not, cond}
+use Prim.Native.Nat.{ℕ, zero, suc, _+_, _^_, _≤_, _<_}
+use mathlib.Core.Path.{_≡_, refl, _∙_}
+use mathlib.Core.Bool.{Bool, true, false, cond}
 use mathlib.Core.List.{List}
 use native.Mathlib.Numerals.{add-one}
 use native.Mathlib.Omega.{arith}
-use lib.IntN.{pos, negsuc}
 use lib.Dec.{T, eqb, lit≤}
 use lib.ListN.{length}
 use lib.Pow.{pow-pos}
-use lib.Ieee.{Float, nan, inf, fin, binary64, sub, mul, div, neg, lt, le, fits, ofBits, isNan}
+use lib.Ieee.{Float, binary64, sub, mul, div, neg, lt, le, fits, ofBits}
 use lib.Ieee.Fits.{mul-fits, neg-fits}
 use Rattle.complex.specs.declared.Complex.{Complex}
 use Rattle.constellation.specs.Alphabet.{fone}
@@ -21,7 +20,7 @@ use Rattle.laws.specs.Plain.{plain}
 use Rattle.laws.specs.Operations.{sub-plain, mul-plain-signed}
 use Rattle.laws.specs.Maximum.{maxf, maxf-ge, recip-plain}
 use Rattle.demap.specs.declared.Closest.{Closest}
-use Rattle.demap.specs.Nearest.{distSqr, pointAt, nearestOf, nearest}
+use Rattle.demap.specs.Nearest.{distSqr, pointAt, nearest}
 use Rattle.demap.specs.NearestLaws.{Near, dist-plain, dist-fits, First, nearest-first, plain-below-inf}
 use Rattle.demap.specs.Candidates.{candidate}
 use Rattle.demap.specs.CandidateLaws.{candidate-is}

@@ -2,8 +2,7 @@
 ghost use mathlib.Core.Path.{_≡_};
 ghost use Prim.Native.Nat.{_+_, _≤_, _<_, _^_};
 ghost use lib.ListN.{length};
-ghost use lib.Ieee.{binary64, div};
-ghost use Rattle.constellation.specs.Alphabet.{alphabet, fone};
+ghost use Rattle.constellation.specs.Alphabet.{alphabet};
 ghost use Rattle.demap.specs.Nearest.{distSqr, nearest};
 ghost use Rattle.demap.specs.Candidates.{candidate};
 ghost use Rattle.demap.specs.Soft.{alternative, softOf, softBit};

@@ -1,9 +1,9 @@
 -- The answer to a row of tokens, from its head and its offers, and what is printed for a text. Assumes nothing.
-use mathlib.Core.Path.{_≡_, refl, sym, ap, ap₂, _∙_}
+use mathlib.Core.Path.{_≡_, refl, sym, ap, _∙_}
 use mathlib.Core.Bool.{Bool, true, false, cond, _&&_}
 use mathlib.Core.List.{List, [], _∷_, _++_, map, flatMap}
 use mathlib.Core.Option.{Option, none, some, Option·map, bind}
-use Prim.Native.Nat.{ℕ, suc, _+_, _-_, _*_, _/_, _≤_, _<_}
+use Prim.Native.Nat.{ℕ, _-_, _*_, _/_, _≤_, _<_}
 use native.Mathlib.Omega.{arith}
 use lib.Dec.{leb, eqb}
 use lib.ListN.{length, take, drop, length-drop, length-map}
@@ -13,14 +13,12 @@ use Rattle.hold.specs.declared.Hold.{Hold}
 use Rattle.hold.specs.Offer.{freshHold}
 use Rattle.hold.specs.History.{Offer, Detection}
 use Rattle.hold.specs.Releases.{releases}
-use Rattle.trial.specs.declared.Ran.{Ran}
 use Rattle.trial.specs.declared.Ran.the-variants.{BadOffers, Rows}
 use Rattle.trial.specs.Words.{words}
-use Rattle.trial.specs.Numbers.{decimal}
 use Rattle.trial.specs.Trial.{Token, token, numberIn, Trial, trialOf, offersIn, line, report, bad, answer, printed}
 use Rattle.trial.specs.Scan.{tokensIn}
-use Rattle.trial.specs.Run.{trialWith, HeadIs, rowsOf, rowIn, RunsOffers}
-use Rattle.trial.specs.Write.{rowLine, rowLines, rowReport}
+use Rattle.trial.specs.Run.{trialWith, HeadIs, rowsOf, RunsOffers}
+use Rattle.trial.specs.Write.{rowLines, rowReport}
 
 -- ---- a row says what its releases say
 rows-length : (ds : List Detection) → length (rowsOf ds) ≡ 2 * length ds
@@ -44,6 +42,13 @@ pub answer-none : (t : Option Trial) → t ≡ none → bad ≡ answer t
 unfolding answer
 answer-none t e = rw e
 
+-- the tokens after the head, as the code lends them
+abbrev pub after : List ℕ → List ℕ
+after tokens = take (length tokens - 4) (drop 4 tokens)
+
+after-head : (tokens : List ℕ) → after tokens ≡ drop 4 tokens
+after-head tokens = take-all (length tokens - 4) (drop 4 tokens) (omega (arith, length-drop 4 tokens))
+
 module _ (hold dead : ℕ) where
   abbrev runs : Option (List Offer) → Option (List ℕ)
   runs x = Option·map (λ os. rowsOf (releases (freshHold hold dead) os)) x
@@ -59,13 +64,6 @@ module _ (hold dead : ℕ) where
   all-offers (some os) row e =
       let r : row ≡ rowsOf (releases (freshHold hold dead) os) = cc in
       rw r (rows-report (releases (freshHold hold dead) os))
-
-  -- the tokens after the head, as the code lends them
-  abbrev after : List ℕ → List ℕ
-  after tokens = take (length tokens - 4) (drop 4 tokens)
-
-  after-head : (tokens : List ℕ) → after tokens ≡ drop 4 tokens
-  after-head tokens = take-all (length tokens - 4) (drop 4 tokens) (omega (arith, length-drop 4 tokens))
 
   module _ (count : ℕ) (tokens : List ℕ) (start : Hold) (row : List ℕ) (h : HeadIs hold dead count tokens) (is : start ≡ freshHold hold dead) where
     pub answer-bad-offers : RunsOffers BadOffers (after tokens) start row → bad ≡ answer (trialOf (tokensIn tokens))

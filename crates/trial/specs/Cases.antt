@@ -1,14 +1,13 @@
 -- 01's example of `holdtrial`, computed. Assumes nothing.
 use mathlib.Core.Path.{_≡_, refl}
-use mathlib.Core.List.{List, [], _∷_}
+use mathlib.Core.List.{List, [], _∷_, flatMap}
 use Prim.Native.Nat.{ℕ}
 use lib.Ieee.{lt, ofInt, toUnsigned}
 use Rattle.hold.specs.Offer.{blockNumber, atLeast, due, greater, taken, keeping, releasing, offeredAt, offered}
 use Rattle.hold.specs.Releases.{released, releases}
 use Rattle.trial.specs.Words.{separator, word, wordsFrom, words}
 use Rattle.trial.specs.Numbers.{digit, allDigits, valueAfter, lastDigits, decimal}
-use Rattle.trial.specs.Trial.{isDash, limited, token, numberIn, candidateIn, offersIn, trialOf, line, report, bad, answer, printed}
-use mathlib.Core.List.{flatMap}
+use Rattle.trial.specs.Trial.{isDash, limited, token, numberIn, candidateIn, offersIn, trialOf, line, report, answer, printed}
 use mathlib.Core.Option.{bind}
 
 -- "2 8 100 8 10 25 12 30 14 30 20 29 22 40 110 50 112 20 121 -"

@@ -8,4 +8,5 @@ pub mod RunLaws
 pub mod OffersLaws
 pub mod Write
 pub mod AnswerLaws
+pub mod DecimalBack
 pub mod Cases

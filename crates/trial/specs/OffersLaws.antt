@@ -1,14 +1,11 @@
 -- Laws of the loop over the offers: what is kept of the hold, and what the rest of the tokens says. Assumes nothing.
 use mathlib.Core.Path.{_≡_, refl, sym, ap, _∙_}
-use mathlib.Core.Bool.{Bool, true, false, cond, _&&_}
-use mathlib.Core.List.{List, [], _∷_, _++_, map, append-assoc, append-nil}
+use mathlib.Core.List.{List, [], _∷_, _++_, append-assoc, append-nil}
 use mathlib.Core.Option.{Option, none, some, Option·map, bind}
-use Prim.Native.Nat.{ℕ, suc, _+_, _*_, _≤_, _<_, _^_}
+use Prim.Native.Nat.{ℕ, _+_, _*_, _≤_, _<_, _^_}
 use native.Mathlib.Omega.{arith}
 use lib.ListN.{length, getD, take, drop, drop-of-length-le}
-use lib.Ieee.{Float, toUnsigned}
 use Rattle.refusal.specs.declared.Position.{Position}
-use Rattle.hold.specs.declared.Block.{Block}
 use Rattle.hold.specs.declared.Held.{Held}
 use Rattle.hold.specs.declared.Held.the-variants.{Empty, At}
 use Rattle.hold.specs.declared.Candidate.{Candidate}
@@ -17,13 +14,14 @@ use Rattle.hold.specs.declared.Release.{Release}
 use Rattle.hold.specs.declared.Release.the-variants.{NoRelease, Released}
 use Rattle.hold.specs.declared.Hold.{Hold}
 use Rattle.hold.specs.declared.Offered.{Offered}
-use Rattle.hold.specs.Offer.{Room, atLeast, due, greater, taken, keeping, releasing, offeredAt, offered}
+use Rattle.hold.specs.Offer.{Room, offered}
+use Rattle.hold.specs.OfferLaws.{OfHeld, OfRelease, OfCandidate, Keeps, offered-keeps}
 use Rattle.hold.specs.History.{Offer, Detection}
 use Rattle.hold.specs.Releases.{released, releases}
 use Rattle.trial.specs.declared.Ran.the-variants.{BadOffers, Rows}
-use Rattle.trial.specs.Trial.{Token, numberIn, candidateIn, offersIn}
+use Rattle.trial.specs.Trial.{Token, offersIn}
 use Rattle.trial.specs.Scan.{tokenIn, tokensIn}
-use Rattle.trial.specs.Run.{Whole, WholeCandidate, WholeHeld, WholeRelease, Kept, BringsCandidate, rowsOf, Stores, RunsOffers}
+use Rattle.trial.specs.Run.{WholeCandidate, Small, Kept, BringsCandidate, rowsOf, Stores, RunsOffers}
 use Rattle.trial.specs.ScanLaws.{drop-two}
 use Rattle.trial.specs.RunLaws.{numberIn-small, numberIn-above, brings-nothing}
 
@@ -31,39 +29,23 @@ use Rattle.trial.specs.RunLaws.{numberIn-small, numberIn-above, brings-n
 pub kept-room : (h : Hold) → Kept h → Room (h .best) (h .dead)
 kept-room h k = go (h .best) (k .best)
   where
-    go : (best : Held) → WholeHeld best → Room best (h .dead)
+    go : (best : Held) → OfHeld Small best → Room best (h .dead)
     go Empty w = tt
     go (At b m) w = omega (arith, w .0, k .dead)
 
-module _ (h : Hold) (p : Position) (c : Candidate) (k : Kept h) (small : p .0 ≤ 2 ^ 48) (w : WholeCandidate c) where
-  whole-taken : (c : Candidate) → WholeCandidate c → WholeHeld (taken (h .block) (h .best) p c)
-  unfolding taken
-  whole-taken NoCandidate w = k .best
-  whole-taken (Metric m) w = go (atLeast p (h .block) && greater m (h .best))
-    where
-      go : (t : Bool) → WholeHeld (cond t (At p m) (h .best))
-      go true = (small, w)
-      go false = k .best
+small-candidate : (p : Position) (c : Candidate) → p .0 ≤ 2 ^ 48 → WholeCandidate c → OfCandidate Small p c
+small-candidate p NoCandidate l w = tt
+small-candidate p (Metric m) l w = (l, w)
 
-  abbrev KeptAfter : Offered → Type 0
-  KeptAfter o = Kept (o .next) × WholeRelease (o .release)
+module _ (h : Hold) (p : Position) (c : Candidate) (k : Kept h) (l : p .0 ≤ 2 ^ 48) (w : WholeCandidate c) where
+  keeps : Keeps Small h (offered h p c)
+  keeps = offered-keeps Small h p c (k .best) (small-candidate p c l w)
 
-  kept-keeping : KeptAfter (keeping h p c)
-  unfolding keeping
-  kept-keeping = (record { dead = k .dead; best = whole-taken c w }, tt)
+  pub kept-offered : Kept (offered h p c .next)
+  kept-offered = record { dead = rw (keeps .dead) (k .dead); best = keeps .best }
 
-  kept-at : (best : Held) → WholeHeld best → KeptAfter (offeredAt best h p c)
-  unfolding offeredAt releasing
-  kept-at Empty w = kept-keeping
-  kept-at (At b m) w = go (due (h .hold) b p)
-    where
-      go : (t : Bool) → KeptAfter (cond t (releasing h b m) (keeping h p c))
-      go true = (record { dead = k .dead; best = tt }, w .1)
-      go false = kept-keeping
-
-  pub kept-offered : KeptAfter (offered h p c)
-  unfolding offered
-  kept-offered = kept-at (h .best) (k .best)
+  pub small-released : OfRelease Small (offered h p c .release)
+  small-released = keeps .release
 
 -- ---- two tokens more
 two-tokens : (tokens : List ℕ) (k : ℕ) → 2 * k + 1 < length tokens
@@ -137,7 +119,7 @@ module _ (tokens : List ℕ) (start : Hold) (count : ℕ) (row : List ℕ) (h : 
           record {
             turns = omega arith;
             most = omega (arith, s .most, run .most);
-            kept = rw is (kept-offered h at c (run .kept) small (b .whole) .0);
+            kept = rw is (kept-offered h at c (run .kept) small (b .whole));
             same =
                 sym
                 (rw (two-tokens tokens k l, offers-more (getD tokens (2 * k) 0) (getD tokens (2 * k + 1) 0) c rest small b)

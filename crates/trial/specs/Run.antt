@@ -5,13 +5,12 @@ use mathlib.Core.Option.{Option, none, some, Option·map}
 use Prim.Native.Nat.{ℕ, _+_, _*_, _≤_, _^_}
 use lib.ListN.{length, take, drop}
 use lib.Ieee.{Float, toUnsigned}
-use Rattle.hold.specs.declared.Held.{Held}
-use Rattle.hold.specs.declared.Held.the-variants.{Empty, At}
+use Rattle.refusal.specs.declared.Position.{Position}
 use Rattle.hold.specs.declared.Candidate.{Candidate}
 use Rattle.hold.specs.declared.Candidate.the-variants.{NoCandidate, Metric}
 use Rattle.hold.specs.declared.Release.{Release}
-use Rattle.hold.specs.declared.Release.the-variants.{NoRelease, Released}
 use Rattle.hold.specs.declared.Hold.{Hold}
+use Rattle.hold.specs.OfferLaws.{OfHeld}
 use Rattle.hold.specs.History.{Offer, Detection}
 use Rattle.hold.specs.Releases.{released, releases}
 use Rattle.trial.specs.declared.Head.{Head}
@@ -42,23 +41,19 @@ pub record Whole (m : Float) : Type 0 where
   pub small : value ≤ 2 ^ 48
   pub is : m ≡ wholeMetric value
 
+-- a candidate of the trial: its position and its metric are such numbers
+abbrev pub Small : Position → Float → Type 0
+Small b m = (b .0 ≤ 2 ^ 48) × Whole m
+
+pub record Kept (h : Hold) : Type 0 where
+  pub dead : h .dead ≤ 2 ^ 48
+  pub best : OfHeld Small (h .best)
+
+-- ---- the offers
 abbrev pub WholeCandidate : Candidate → Type 0
 WholeCandidate NoCandidate = Unit {0}
 WholeCandidate (Metric m) = Whole m
 
-abbrev pub WholeHeld : Held → Type 0
-WholeHeld Empty = Unit {0}
-WholeHeld (At b m) = (b .0 ≤ 2 ^ 48) × Whole m
-
-abbrev pub WholeRelease : Release → Type 0
-WholeRelease NoRelease = Unit {0}
-WholeRelease (Released b m) = Whole m
-
-pub record Kept (h : Hold) : Type 0 where
-  pub dead : h .dead ≤ 2 ^ 48
-  pub best : WholeHeld (h .best)
-
--- ---- the offers
 -- the token brings the candidate c
 pub record BringsCandidate (t : ℕ) (c : Candidate) : Type 0 where
   pub brought : candidateIn (tokenIn t) ≡ some c

@@ -1,8 +1,8 @@
 -- Laws of trials as rows of tokens. Assumes nothing.
 use mathlib.Core.Path.{_≡_, refl, sym, ap, _∙_}
 use mathlib.Core.Bool.{Bool, true, false, cond, _&&_}
-use mathlib.Core.List.{List, [], _∷_, _++_, map, append-assoc, append-nil}
-use mathlib.Core.Option.{Option, none, some, Option·map, bind}
+use mathlib.Core.List.{List, [], _∷_, _++_, append-assoc, append-nil}
+use mathlib.Core.Option.{none, some, Option·map, bind}
 use Prim.Native.Nat.{ℕ, suc, _+_, _*_, _≤_, _<_, _^_}
 use native.Mathlib.Omega.{arith}
 use native.Mathlib.Numerals.{add-one}
@@ -14,12 +14,11 @@ use lib.Ieee.{Float, binary64, inFloat, inUnsigned, toUnsigned}
 use lib.Ieee.Back.{unsigned-back}
 use borrow.Author.Tests.{le-leb, lt-leb, eq-eqb, ne-eqb, leb-true, leb-false}
 use Rattle.refusal.specs.declared.Position.{Position}
-use Rattle.hold.specs.declared.Candidate.{Candidate}
 use Rattle.hold.specs.declared.Candidate.the-variants.{NoCandidate, Metric}
 use Rattle.hold.specs.declared.Release.{Release}
 use Rattle.hold.specs.declared.Release.the-variants.{NoRelease, Released}
 use Rattle.hold.specs.Releases.{released}
-use Rattle.trial.specs.Trial.{Token, number, dash, other, numberIn, wholeMetric, candidateIn, offersIn, Trial, trialOf}
+use Rattle.trial.specs.Trial.{dash, other, numberIn, wholeMetric, candidateIn, offersIn, trialOf}
 use Rattle.trial.specs.Scan.{tokenIn, tokensIn}
 use Rattle.trial.specs.ScanLaws.{tokenIn-small}
 use Rattle.trial.specs.Run.{trialWith, HeadIs, Whole, BringsCandidate, rowsOf, Stores}

@@ -1,7 +1,7 @@
 -- How the code reads the words of a text: places in it, and tokens as numbers of 64 bits.
 use mathlib.Core.Path.{_≡_}
 use mathlib.Core.Bool.{true, false, cond}
-use mathlib.Core.List.{List, [], _∷_, map}
+use mathlib.Core.List.{List, map}
 use Prim.Native.Nat.{ℕ, _+_, _-_, _*_, _≤_, _<_, _^_}
 use lib.Dec.{leb, eqb}
 use lib.ListN.{length, getD, take, drop}

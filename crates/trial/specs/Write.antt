@@ -6,9 +6,9 @@ use Prim.Native.Nat.{ℕ, zero, suc, _+_, _*_, _/_, _%_, _≤_, _<_, _^_}
 use native.Mathlib.Nat.{zero-add, add-zero, add-suc, suc-add, pow-succ'}
 use native.Mathlib.Omega.{arith}
 use lib.Dec.{ltb}
-use lib.ListN.{length, getD, drop, set, length-append, length-drop}
-use lib.Seq.{sets}
-use borrow.Author.Tests.{lt-ltb, le-ltb, ltb-true, ltb-false}
+use lib.ListN.{length, getD, take, drop, set, length-append, length-take, length-drop}
+use lib.Seq.{sets, sets-eq, length-sets, take-at, drop-at}
+use borrow.Author.Tests.{lt-ltb, le-ltb, ltb-false}
 use Rattle.trial.specs.Numbers.{lastDigits, decimal}
 use Rattle.trial.specs.Trial.{printed}
 use Rattle.trial.specs.ScanLaws.{drop-two}
@@ -21,9 +21,9 @@ pub record Writes (text before : List ℕ) (at : ℕ) (after : List ℕ) (r : �
 
 -- the text that is printed for an input stands at the start of a buffer, whose other bytes are as before; r is its length
 pub record Prints (input before after : List ℕ) (r : ℕ) : Type 0 where
-  pub text : after ≡ sets before 0 (printed input)
   pub count : r ≡ length (printed input)
-  pub within : r ≤ length after
+  pub text : take r after ≡ printed input
+  pub rest : drop r after ≡ drop r before
 
 -- position p and metric m, on a line
 abbrev pub rowLine : ℕ → ℕ → List ℕ
@@ -53,7 +53,22 @@ writes-both {s} {t} {before} {middle} {after} {i} {j} {k} a b =
     }
 
 pub prints : (input text before after : List ℕ) (r : ℕ) → text ≡ printed input → Writes text before 0 after r → Prints input before after r
-prints input text before after r e w = record { text = rw e at (w .holds); count = w .end ∙ zero-add (length text) ∙ ap length e; within = w .fits }
+prints input text before after r e w =
+    let n : r ≡ length text = w .end ∙ zero-add (length text) in
+    let h : 0 + length text ≤ length before = omega (arith, w .fits, w .end, ap length (w .holds), length-sets before 0 text) in
+    let whole : after ≡ text ++ drop (0 + length text) before = w .holds ∙ sets-eq text before 0 h in
+    record {
+      count = n ∙ ap length e;
+      text = rw whole (take-at text (drop (0 + length text) before) r (sym n)) ∙ e;
+      rest = rw whole (drop-at text (drop (0 + length text) before) r (sym n)) ∙ ap (λ (k : ℕ). drop k before) (sym (w .end));
+    }
+
+-- what a caller lends of the buffer: its first r bytes
+pub prints-taken : {input before after : List ℕ} {r : ℕ} → Prints input before after r → r ≡ length (take r after)
+prints-taken p = p .count ∙ sym (ap length (p .text))
+
+pub prints-within : {input before after : List ℕ} {r : ℕ} → Prints input before after r → r ≤ length after
+prints-within {input} {before} {after} {r} p = omega (arith, prints-taken p, length-take r after)
 
 -- ---- decimal digits: the count of digits that are looked for does not matter
 last-same : (j k n : ℕ) → n < j → n < k → lastDigits j n ≡ lastDigits k n
@@ -76,9 +91,6 @@ unfolding decimal lastDigits
 decimal-more n h = rw (le-ltb n 10 h) (ap (λ (l : List ℕ). l ++ ((48 + n % 10) ∷ [])) (last-same n (suc (n / 10)) (n / 10) (omega arith) (omega arith)))
 
 -- ---- how long
-pub decimal-longer : (n : ℕ) → 10 ≤ n → length (decimal n) ≡ length (decimal (n / 10)) + 1
-decimal-longer n h = ap length (decimal-more n h) ∙ length-append (decimal (n / 10)) ((48 + n % 10) ∷ [])
-
 last-length : (j k n : ℕ) → n < 10 ^ k → 0 < k → length (lastDigits j n) ≤ k
 unfolding lastDigits
 last-length zero k n h g = omega arith
@@ -92,9 +104,9 @@ last-length (suc j) (suc (suc k)) n h g =
     go l true = omega arith
     go l false = omega arith
 
-pub decimal-length : (n : ℕ) → n < 2 ^ 64 → length (decimal n) ≤ 20
+pub tenth-length : (n : ℕ) → n < 2 ^ 64 → length (decimal (n / 10)) ≤ 19
 unfolding decimal
-decimal-length n h = last-length (suc n) 20 n (omega arith) (omega arith)
+tenth-length n h = last-length (suc (n / 10)) 19 (n / 10) (omega arith) (omega arith)
 
 -- ---- the lines of a row, pair by pair
 short-lines : (l : List ℕ) → length l ≤ 1 → rowLines l ≡ []

@@ -9,7 +9,8 @@ ghost use Rattle.trial.specs.Words.{separator};
 ghost use Rattle.trial.specs.Numbers.{digit, decimal};
 ghost use Rattle.trial.specs.Trial.{isDash, token, trialOf, bad, answer};
 ghost use Rattle.trial.specs.Scan.{Skips, Ends, afterDigit, tokenIn, tokensIn, ReadsTokens};
-ghost use Rattle.trial.specs.Run.{ReadsHead, BringsCandidate, WholeRelease, Stores, Kept, RunsOffers};
+ghost use Rattle.trial.specs.Run.{ReadsHead, BringsCandidate, Small, Stores, Kept, RunsOffers};
+ghost use Rattle.hold.specs.OfferLaws.{OfRelease};
 ghost use Rattle.trial.specs.Write.{Writes, rowLine, rowLines, rowReport, Prints};
 use hold::Candidate;
 use hold::Hold;
@@ -194,7 +195,7 @@ fn candidate_of(t: u64) -> Candidate
 
 // Puts position and metric of a release into the row at place n, and answers the next place.
 fn store(r: Release, row: &mut [u64], n: usize) -> usize
-    requires { ⌜ WholeRelease r × (n + 2 ≤ length (now row)) ⌝ }
+    requires { ⌜ OfRelease Small r × (n + 2 ≤ length (now row)) ⌝ }
     ensures { λ e. ⌜ Stores r (now (row .entry)) n (now (row .exit)) e ⌝ }
 {
     let Release::Released(b, m) = r else {
@@ -245,8 +246,8 @@ fn write_byte(b: u8, out: &mut [u8], at: usize) -> usize
 }
 
 fn write_decimal(n: u64, out: &mut [u8], at: usize) -> usize
-    requires { ⌜ at + length (decimal n) ≤ length (now out) ⌝ }
-    ensures { λ r. ⌜ Writes (decimal n) (now (out .entry)) at (now (out .exit)) r ⌝ }
+    requires { ⌜ at + 20 ≤ length (now out) ⌝ }
+    ensures { λ r. ⌜ Writes (decimal n) (now (out .entry)) at (now (out .exit)) r × (r ≤ at + 20) ⌝ }
 {
     if n < 10 {
         return write_byte(b'0' + n as u8, out, at);

@@ -1,5 +1,4 @@
 -- `constellation::size` meets its contract: 2 and 4. Assumes nothing.
-use Prim.Native.Nat.{_^_}
 use mathlib.Core.Path.{_≡_, refl}
 use native.Mathlib.Omega.{arith}
 use Rattle.constellation.proofs.size.Statement.{statement}

@@ -1,5 +1,5 @@
 -- `demap::nearest` meets its contract: after j turns it holds the nearest of the first j labels. Assumes nothing.
-use Prim.Native.Nat.{ℕ, _-_, _^_, _≤_, _<_}
+use Prim.Native.Nat.{ℕ, _-_, _^_, _≤_}
 use mathlib.Core.Path.{_≡_, refl, ap, _∙_}
 use mathlib.Core.Logic.{⊎-elim}
 use native.Mathlib.Nat.{zero-lt-suc, pow-le-pow-right}

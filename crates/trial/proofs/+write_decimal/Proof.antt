@@ -4,7 +4,7 @@ use Prim.Native.Nat.{ℕ, _<_}
 use native.Mathlib.Omega.{arith}
 use borrow.Fn.Kinds.{In}
 use borrow.Fn.PlainCycle.{Measures, is, falls, and}
-use Rattle.trial.specs.Write.{writes-both, decimal-one, decimal-more, decimal-longer}
+use Rattle.trial.specs.Write.{writes-both, decimal-one, decimal-more, tenth-length}
 use Rattle.trial.proofs.write_decimal.Reads as write-decimal
 use Rattle.trial.proofs.write_decimal.Kinds as write-decimal-kinds
 use Rattle.trial.proofs.+write_decimal.Lts-write_decimal as write-decimal-lts
@@ -49,7 +49,7 @@ write-decimal-write-byte-requires : (t : ℕ) → write-decimal-lts.Need-write-b
   write-decimal-below t,
   write-decimal.Post,
 ) (write-decimal-at t) write-decimal.Post
-write-decimal-write-byte-requires t c κs = rw (decimal-one _ (c .before .if1 .taken)) at (c .before .before .before .pre .1)
+write-decimal-write-byte-requires t c κs = omega arith
 
 write-decimal-same-length : (t : ℕ) → write-decimal-lts.Need-same-length (
   write-byte-reads.Asked,
@@ -65,7 +65,7 @@ write-decimal-returns : (t : ℕ) → write-decimal-lts.Need-returns (
   write-decimal-below t,
   write-decimal.Post,
 ) (write-decimal-at t) write-decimal.Post
-write-decimal-returns t c = rw (decimal-one _ (c .before .before .before .before .if1 .taken)) (c .before .before .write-byte .ensures)
+write-decimal-returns t c = (rw (decimal-one _ (c .before .before .before .before .if1 .taken)) (c .before .before .write-byte .ensures), omega (arith, c .before .before .write-byte .ensures .end))
 
 write-decimal-write-decimal-requires : (t : ℕ) → write-decimal-lts.Need-write-decimal-requires (
   write-byte-reads.Asked,
@@ -73,10 +73,7 @@ write-decimal-write-decimal-requires : (t : ℕ) → write-decimal-lts.Need-writ
   write-decimal-below t,
   write-decimal.Post,
 ) (write-decimal-at t) write-decimal.Post
-write-decimal-write-decimal-requires t c κs = (
-  omega (arith, c .before .before .before .pre .0, c .before .if1 .left),
-  omega (arith, decimal-longer (c .before .before .before .args .n) (c .before .if1 .left), c .before .before .before .pre .1),
-)
+write-decimal-write-decimal-requires t c κs = (omega (arith, c .before .before .before .pre .0, c .before .if1 .left), c .before .before .before .pre .1)
 
 write-decimal-cast-write-byte-2 : (t : ℕ) → write-decimal-lts.Need-cast-write-byte-2 (
   write-byte-reads.Asked,
@@ -101,13 +98,7 @@ write-decimal-write-byte-requires-2 : (t : ℕ) → write-decimal-lts.Need-write
   write-decimal.Post,
 ) (write-decimal-at t) write-decimal.Post
 write-decimal-write-byte-requires-2 t c κs =
-    omega (
-      arith,
-      c .before .before .before .write-decimal .ensures .end,
-      c .before .before .before .write-decimal .kept .1 .0,
-      decimal-longer (c .before .before .before .before .before .before .before .args .n) (c .before .before .before .before .before .if1 .left),
-      c .before .before .before .before .before .before .before .pre .1,
-    )
+    omega (arith, c .before .before .before .write-decimal .ensures .0 .end, c .before .before .before .write-decimal .kept .1 .0, tenth-length (c .before .before .before .before .before .before .before .args .n) (c .before .before .before .before .before .before .before .fits .n .fits), c .before .before .before .before .before .before .before .pre .1)
 
 write-decimal-same-length-2 : (t : ℕ) → write-decimal-lts.Need-same-length-2 (
   write-byte-reads.Asked,
@@ -123,7 +114,10 @@ write-decimal-returns-2 : (t : ℕ) → write-decimal-lts.Need-returns-2 (
   write-decimal-below t,
   write-decimal.Post,
 ) (write-decimal-at t) write-decimal.Post
-write-decimal-returns-2 t c = rw (decimal-more _ (c .before .before .before .before .before .before .before .before .if1 .left)) (writes-both (c .before .before .before .before .before .before .write-decimal .ensures) (c .before .before .write-byte2 .ensures))
+write-decimal-returns-2 t c = (
+  rw (decimal-more _ (c .before .before .before .before .before .before .before .before .if1 .left)) (writes-both (c .before .before .before .before .before .before .write-decimal .ensures .0) (c .before .before .write-byte2 .ensures)),
+  omega (arith, c .before .before .write-byte2 .ensures .end, c .before .before .before .before .before .before .write-decimal .ensures .0 .end, tenth-length (c .before .before .before .before .before .before .before .before .before .before .args .n) (c .before .before .before .before .before .before .before .before .before .before .fits .n .fits)),
+)
 
 pub +write-decimal-spec : {M : Type 1} → statement M
 +write-decimal-spec = close μ-write-decimal λ t. write-decimal-lts.spec (

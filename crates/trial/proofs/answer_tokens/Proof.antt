@@ -1,22 +1,22 @@
 -- `trial::answer_tokens` meets its contract: each return is one of the laws of the answer. Assumes nothing.
-use mathlib.Core.Path.{_≡_, refl, sym, _∙_}
-use mathlib.Core.List.{List}
-use Prim.Native.Nat.{ℕ, _-_, _*_, _≤_}
-use lib.ListN.{length, take, drop, length-take, length-drop}
+use mathlib.Core.Path.{sym}
+use Prim.Native.Nat.{_≤_}
+use lib.ListN.{length-take, length-drop}
 use lib.Seq.{length-take-le}
-use Rattle.trial.specs.declared.Ran.the-variants.{BadOffers, Rows}
-use Rattle.trial.specs.Run.{HeadIs, Kept, RunsOffers}
-use Rattle.trial.specs.AnswerLaws.{answer-none, answer-bad-offers, answer-rows}
+use Rattle.trial.specs.declared.Ran.the-variants.{Rows}
+use Rattle.trial.specs.Run.{HeadIs, RunsOffers}
+use Rattle.trial.specs.AnswerLaws.{after, answer-none, answer-bad-offers, answer-rows}
 use borrow.Author.Needs.{needs}
 use native.Mathlib.Omega.{arith}
 use Rattle.trial.proofs.answer_tokens.Statement.{statement}
 use Rattle.trial.proofs.answer_tokens.Tie as tie
 
-head : (c : tie.After-known-told) → HeadIs (c .before .hold .given .0 .0) (c .before .hold .given .0 .1 .0) (c .before .hold .given .0 .1 .1 .0) (c .before .before .before .before .before .before .args .tokens .now)
+head : (c : tie.After-known-told)
+    → HeadIs (c .before .hold .given .0 .0) (c .before .hold .given .0 .1 .0) (c .before .hold .given .0 .1 .1 .0) (c .before .before .before .before .before .before .args .tokens .now)
 head c = rw (c .before .hold .given .1) at (c .before .before .before .read-head .ensures)
 
-ran : (c : tie.After-known-told2)
-    → RunsOffers (Rows (c .before .ran .given .0 .0)) (take (length (c .before .before .before .before .before .before .before .before .before .before .before .before .before .before .args .tokens .now) - 4) (drop 4 (c .before .before .before .before .before .before .before .before .before .before .before .before .before .before .args .tokens .now)))
+-- the offers of the tokens after the head ran to the end
+ran : (c : tie.After-known-told2) → RunsOffers (Rows (c .before .ran .given .0 .0)) (after (c .before .before .before .before .before .before .before .before .before .before .before .before .before .before .args .tokens .now))
     (c .before .before .before .before .before .before .fresh .result) (c .before .before .before .before .run-offers .last .1 .1 .1 .0)
 ran c = rw (c .before .ran .given .1) at (c .before .before .before .before .run-offers .ensures)
 
@@ -77,7 +77,10 @@ same-length-2 c = search needs
 
 returns-2 : tie.Need-returns-2
 returns-2 c =
-    rw (← answer-bad-offers _ _ _ _ _ _ (head (c .before .before .before .before .before .before .before .before .before .before .before)) (c .before .before .before .before .before .before .before .before .before .fresh .ensures) (rw (c .before .before .before .before .enum-told2 .given .1) at (c .before .before .before .before .before .before .before .run-offers .ensures)))
+    rw
+    (← answer-bad-offers _ _ _ _ _ _ (head (c .before .before .before .before .before .before .before .before .before .before .before))
+    (c .before .before .before .before .before .before .before .before .before .fresh .ensures)
+    (rw (c .before .before .before .before .enum-told2 .given .1) at (c .before .before .before .before .before .before .before .run-offers .ensures)))
     (c .before .before .write-bad2 .ensures)
 
 array-share-prefix-row : tie.Need-array-share-prefix-row
@@ -93,7 +96,11 @@ same-length-3 : tie.Need-same-length-3
 same-length-3 c = search needs
 
 returns-3 : tie.Need-returns-3
-returns-3 c = rw (← answer-rows _ _ _ _ _ _ (head (c .before .before .before .before .before .before .before .before .before .before .before .before .before)) (c .before .before .before .before .before .before .before .before .before .before .before .fresh .ensures) _ (ran (c .before .before .before .before .before))) (c .before .before .write-report .ensures)
+returns-3 c =
+    rw
+    (← answer-rows _ _ _ _ _ _ (head (c .before .before .before .before .before .before .before .before .before .before .before .before .before))
+    (c .before .before .before .before .before .before .before .before .before .before .before .fresh .ensures) _ (ran (c .before .before .before .before .before)))
+    (c .before .before .write-report .ensures)
 
 pub answer-tokens-spec : {M : Type 1} → statement M
 answer-tokens-spec =

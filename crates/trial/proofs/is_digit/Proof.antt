@@ -1,5 +1,4 @@
 -- `trial::is_digit` meets its contract: the two bounds, one after the other. Assumes nothing.
-use mathlib.Core.Path.{_≡_, refl, sym}
 use borrow.Author.Tests.{lt-leb, le-leb}
 use Rattle.trial.specs.Numbers.{digit}
 use Rattle.trial.proofs.is_digit.Statement.{statement}

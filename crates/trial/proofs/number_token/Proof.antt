@@ -1,5 +1,5 @@
 -- `trial::number_token` meets its contract: what the rest of the word says after the digits passed is what the word says. Assumes nothing.
-use mathlib.Core.Path.{_≡_, refl, sym, _∙_}
+use mathlib.Core.Path.{_≡_, sym, _∙_}
 use Prim.Native.Nat.{_+_, _-_, _≤_, _^_}
 use lib.ListN.{length, drop}
 use borrow.Author.Tests.{not-true, not-false}
@@ -7,13 +7,6 @@ use Rattle.trial.specs.Scan.{tokenIn}
 use Rattle.trial.specs.ScanLaws.{numeral, token-numeral, limited-above, limited-small, numeral-end, numeral-other, numeral-on, afterDigit-small, tokenIn-small}
 use borrow.Author.Needs.{needs}
 use native.Mathlib.Omega.{arith}
-use mathlib.Core.Path.{_≡_, refl, sym, _∙_}
-use Prim.Native.Nat.{_+_, _-_, _≤_, _^_}
-use lib.ListN.{length, drop}
-use borrow.Author.Tests.{not-true, not-false, le-leb, lt-leb}
-use Rattle.trial.specs.Trial.{limited}
-use Rattle.trial.specs.Scan.{tokenIn}
-use Rattle.trial.specs.ScanLaws.{numeral, token-numeral, limited-above, numeral-end, numeral-other, numeral-on, afterDigit-small}
 use Rattle.trial.proofs.number_token.Statement.{statement}
 use Rattle.trial.proofs.number_token.Tie as tie
 

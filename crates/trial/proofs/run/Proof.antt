@@ -1,7 +1,7 @@
 -- `trial::run` meets its contract: each return is one of the laws of what is printed. Assumes nothing.
-use mathlib.Core.Path.{_≡_, refl, sym, _∙_}
+use mathlib.Core.Path.{_≡_, sym}
 use Prim.Native.Nat.{_≤_}
-use mathlib.Core.List.{List, map}
+use mathlib.Core.List.{map}
 use lib.ListN.{length, take}
 use lib.Seq.{length-take-le}
 use Rattle.trial.specs.Words.{words}

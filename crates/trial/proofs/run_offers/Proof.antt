@@ -1,10 +1,9 @@
 -- `trial::run_offers` meets its contract: after each turn the rest of the tokens says the rest of the row. Assumes nothing.
 use mathlib.Core.Path.{_≡_, refl, sym, _∙_}
-use Prim.Native.Nat.{_*_, _-_, _≤_}
-use lib.ListN.{length}
+use Prim.Native.Nat.{_+_, _*_, _-_, _≤_, _<_, _^_}
+use lib.ListN.{length, getD}
 use borrow.Author.Tests.{not-true, not-false, leb-true, leb-false}
-use Rattle.trial.specs.Run.{Kept}
-use Rattle.trial.specs.OffersLaws.{Running, running-none, running-all, running-no-position, running-no-metric, running-more, kept-room, kept-offered}
+use Rattle.trial.specs.OffersLaws.{Running, running-none, running-all, running-no-position, running-no-metric, running-more, kept-room, small-released}
 use borrow.Author.Needs.{needs}
 use native.Mathlib.Omega.{arith}
 use Rattle.trial.proofs.run_offers.Statement.{statement}
@@ -15,6 +14,13 @@ Inv-loop tokens count row₀ h₀ n₀ k₀ row h n k = (length row ≡ length r
 
 abbrev μ-loop : tie.MeasureT-loop
 μ-loop tokens count row₀ h₀ n₀ k₀ row h n k = count - k
+
+-- an offer of the row, and the position that was read of it
+within : (c : tie.In-loop Inv-loop μ-loop) → 2 * c .before .loop .k + 1 < length (c .before .before .before .before .args .tokens .now)
+within c = omega (arith, c .loop-test .taken, c .before .before .before .before .pre)
+
+small : (c : tie.Else1 Inv-loop μ-loop) → getD (c .before .before .before .before .before .before .before .before .args .tokens .now) (2 * c .before .before .before .before .before .loop .k) 0 ≤ 2 ^ 48
+small c = leb-true _ _ (sym (c .before .is-number .ensures) ∙ not-false _ (c .if1 .left))
 
 loop-holds : tie.Need-loop-holds Inv-loop μ-loop
 loop-holds c = (refl, running-none _ _ _ _ (c .before .before .pre .0))
@@ -47,15 +53,15 @@ same-length : tie.Need-same-length Inv-loop μ-loop
 same-length c = search needs
 
 returns : tie.Need-returns Inv-loop μ-loop
-returns c = running-no-position _ _ _ _ _ _ _ (c .before .before .before .before .before .loop .inv .1) (omega arith) (leb-false _ _ (sym (c .before .is-number .ensures) ∙ not-true _ (c .if1 .taken)))
+returns c =
+    running-no-position _ _ _ _ _ _ _ (c .before .before .before .before .before .loop .inv .1) (within (c .before .before .before .before))
+    (leb-false _ _ (sym (c .before .is-number .ensures) ∙ not-true _ (c .if1 .taken)))
 
 same-length-2 : tie.Need-same-length-2 Inv-loop μ-loop
 same-length-2 c = omega arith
 
 returns-2 : tie.Need-returns-2 Inv-loop μ-loop
-returns-2 c =
-    running-no-metric _ _ _ _ _ _ _ (c .before .before .before .before .before .before .loop .inv .1) (omega arith)
-    (leb-true _ _ (sym (c .before .before .is-number .ensures) ∙ not-false _ (c .before .if1 .left))) (c .if2 .taken)
+returns-2 c = running-no-metric _ _ _ _ _ _ _ (c .before .before .before .before .before .before .loop .inv .1) (within (c .before .before .before .before .before)) (small (c .before)) (c .if2 .taken)
 
 candidate-of-requires : tie.Need-candidate-of-requires Inv-loop μ-loop
 candidate-of-requires c κs = search needs
@@ -65,7 +71,8 @@ offer-requires c κs = kept-room _ (c .before .before .before .before .before .b
 
 store-requires : tie.Need-store-requires Inv-loop μ-loop
 store-requires c κs = (
-  rw (c .before .before .offer .ensures) (kept-offered _ _ _ (c .before .before .before .before .before .before .before .before .before .before .loop .inv .1 .kept) (leb-true _ _ (sym (c .before .before .before .before .before .before .is-number .ensures) ∙ not-false _ (c .before .before .before .before .before .if1 .left))) (c .before .before .before .candidate-of .ensures .whole) .1),
+  rw (c .before .before .offer .ensures)
+      (small-released _ _ _ (c .before .before .before .before .before .before .before .before .before .before .loop .inv .1 .kept) (small (c .before .before .before .before .before)) (c .before .before .before .candidate-of .ensures .whole)),
   omega (arith, c .before .before .before .before .before .before .before .before .before .before .loop .inv, c .before .before .before .before .before .before .before .before .before .loop-test .taken, c .before .before .before .before .before .before .before .before .before .before .before .before .before .pre),
 )
 
@@ -78,8 +85,10 @@ loop-less c = omega arith
 loop-again : tie.Need-loop-again Inv-loop μ-loop
 loop-again c = (
   c .before .before .store .kept .1 .0 ∙ c .before .before .before .before .before .before .before .before .before .before .before .before .before .loop .inv .0,
-  running-more _ _ _ _ _ _ _ (c .before .before .before .before .before .before .before .before .before .before .before .before .before .loop .inv .1) (omega (arith, c .before .before .before .before .before .before .before .before .before .before .before .before .loop-test .taken, c .before .before .before .before .before .before .before .before .before .before .before .before .before .before .before .before .pre)) (leb-true _ _ (sym (c .before .before .before .before .before .before .before .before .before .is-number .ensures) ∙ not-false _ (c .before .before .before .before .before .before .before .before .if1 .left))) _ _ _ _ (c .before .before .before .before .before .before .candidate-of .ensures)
-      (c .before .before .before .before .before .offer .ensures) (c .before .before .store .ensures) (c .before .before .before .before .before .before .before .before .before .before .before .before .loop-test .taken),
+  running-more _ _ _ _ _ _ _ (c .before .before .before .before .before .before .before .before .before .before .before .before .before .loop .inv .1)
+      (within (c .before .before .before .before .before .before .before .before .before .before .before .before)) (small (c .before .before .before .before .before .before .before .before)) _ _ _ _
+      (c .before .before .before .before .before .before .candidate-of .ensures) (c .before .before .before .before .before .offer .ensures) (c .before .before .store .ensures)
+      (c .before .before .before .before .before .before .before .before .before .before .before .before .loop-test .taken),
 )
 
 same-length-3 : tie.Need-same-length-3 Inv-loop μ-loop

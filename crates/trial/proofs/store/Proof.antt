@@ -1,5 +1,4 @@
 -- `trial::store` meets its contract: nothing is stored, or two numbers. Assumes nothing.
-use mathlib.Core.Path.{_≡_, sym, _∙_}
 use lib.ListN.{length-set}
 use Rattle.trial.specs.RunLaws.{whole-in-u64, stores-none, stores-release}
 use borrow.Author.Needs.{needs}
@@ -23,7 +22,7 @@ slice-write-row : tie.Need-slice-write-row
 slice-write-row c = search needs
 
 float-to-int-row : tie.Need-float-to-int-row
-float-to-int-row c = whole-in-u64 _ (rw (c .before .before .r .given .1) at (c .before .before .before .before .pre .0))
+float-to-int-row c = whole-in-u64 _ ((rw (c .before .before .r .given .1) at (c .before .before .before .before .pre .0)) .1)
 
 add-row : tie.Need-add-row
 add-row c = search needs

@@ -1,5 +1,5 @@
 -- `trial::token_of` meets its contract: the word is "-", or is read as a number. Assumes nothing.
-use mathlib.Core.Path.{_≡_, refl, sym, _∙_}
+use mathlib.Core.Path.{sym, _∙_}
 use Rattle.trial.specs.Scan.{tokenIn}
 use Rattle.trial.specs.ScanLaws.{token-dash}
 use borrow.Author.Needs.{needs}

@@ -1,5 +1,4 @@
 -- `trial::with_digit` meets its contract: the sum, or 2^48 + 1 above 2^48. Assumes nothing.
-use mathlib.Core.Path.{_≡_, refl, sym}
 use Prim.Native.Nat.{_^_}
 use borrow.Author.Tests.{le-leb, lt-leb}
 use Rattle.trial.specs.Scan.{afterDigit}

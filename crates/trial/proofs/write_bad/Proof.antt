@@ -1,5 +1,5 @@
 -- `trial::write_bad` meets its contract: four stores. Assumes nothing.
-use mathlib.Core.Path.{_≡_, refl}
+use mathlib.Core.Path.{refl}
 use lib.ListN.{length-set}
 use Rattle.trial.specs.Trial.{bad}
 use borrow.Author.Needs.{needs}
