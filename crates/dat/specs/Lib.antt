@@ -3,3 +3,4 @@ pub mod Cells
 pub mod Counts
 pub mod Accepted
 pub mod Select
+pub mod Flags

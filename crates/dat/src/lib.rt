@@ -3,11 +3,12 @@ ghost use mathlib.Core.Path.{_≡_};
 ghost use mathlib.Core.Bool.{true, false};
 ghost use Prim.Native.Nat.{_+_, _-_, _*_, _<_, _≤_};
 ghost use lib.Dec.{eqb};
-ghost use lib.ListN.{length, getD};
+ghost use lib.ListN.{length, getD, replicate};
 ghost use Rattle.refusal.specs.Any.{any};
 ghost use Rattle.level.specs.Lengths.{cells};
 ghost use Rattle.level.specs.Sized.{Sized};
 ghost use Rattle.dat.specs.Tables.{badValue, wrongLength, wrongValue, badFlag, wrongFlag, badPhasor, wrongCount, wrongSize, markerFault, phasorFault, tableFault, marked};
+ghost use Rattle.dat.specs.Flags.{flagsSet};
 ghost use Rattle.dat.specs.Cells.{symbolsWhere, picked, marksOf, cellsOf, thin, referenceOf, cellReferenceOf};
 ghost use Rattle.dat.specs.Select.{Pushed};
 ghost use Rattle.dat.specs.Accepted.{InTable, Markers, Phasors};
@@ -74,24 +75,34 @@ fn wrong_value(l: Layout, table: &[u16]) -> bool
     false
 }
 
-fn bad_flag(l: Layout, table: &[u16], c: usize, j: usize) -> bool
-    requires { ⌜ InTable l (now table) c × (j < l .nsym) ⌝ }
-    ensures { λ r. ⌜ r ≡ badFlag l (now (table .entry)) c j ⌝ }
+// Sets to 1 the entries of the symbols that the values of carrier c mark.
+fn set_values(l: Layout, table: &[u16], c: usize, set: &mut [u16])
+    requires { ⌜ InTable l (now table) c × (wrongValue l (now table) ≡ false) × (now set ≡ replicate 452 0) ⌝ }
+    ensures { λ _. ⌜ now (set .exit) ≡ flagsSet l (now (table .entry)) c ⌝ }
 {
-    let flag = table[l.nc * l.markers + (c * l.nsym + j)];
-    if has_value(table, c * l.markers, l.markers, j + 2) {
-        return flag != 1;
+    let from = c * l.markers;
+    let mut k = 0;
+    while k < l.markers {
+        let v = table[from + k] as usize;
+        set[v] = 1;
+        k += 1;
     }
-    flag != 0
 }
 
-fn bad_flags(l: Layout, table: &[u16], c: usize) -> bool
-    requires { ⌜ InTable l (now table) c ⌝ }
+fn bad_flag(l: Layout, table: &[u16], c: usize, set: &[u16], j: usize) -> bool
+    requires { ⌜ InTable l (now table) c × (now set ≡ flagsSet l (now table) c) × (j < l .nsym) ⌝ }
+    ensures { λ r. ⌜ r ≡ badFlag l (now (table .entry)) c j ⌝ }
+{
+    table[l.nc * l.markers + (c * l.nsym + j)] != set[j + 2]
+}
+
+fn bad_flags(l: Layout, table: &[u16], c: usize, set: &[u16]) -> bool
+    requires { ⌜ InTable l (now table) c × (now set ≡ flagsSet l (now table) c) ⌝ }
     ensures { λ r. ⌜ r ≡ any (badFlag l (now (table .entry)) c) (l .nsym) ⌝ }
 {
     let mut j = 0;
     while j < l.nsym {
-        if bad_flag(l, table, c, j) {
+        if bad_flag(l, table, c, set, j) {
             return true;
         }
         j += 1;
@@ -99,13 +110,30 @@ fn bad_flags(l: Layout, table: &[u16], c: usize) -> bool
     false
 }
 
+// The test of a carrier's flags, by way of room for what its values set.
+fn flags_through(l: Layout, table: &[u16], c: usize, set: &mut [u16]) -> bool
+    requires { ⌜ InTable l (now table) c × (wrongValue l (now table) ≡ false) × (now set ≡ replicate 452 0) ⌝ }
+    ensures { λ r. ⌜ r ≡ any (badFlag l (now (table .entry)) c) (l .nsym) ⌝ }
+{
+    set_values(l, table, c, set);
+    bad_flags(l, table, c, set)
+}
+
+fn carrier_flags(l: Layout, table: &[u16], c: usize) -> bool
+    requires { ⌜ InTable l (now table) c × (wrongValue l (now table) ≡ false) ⌝ }
+    ensures { λ r. ⌜ r ≡ any (badFlag l (now (table .entry)) c) (l .nsym) ⌝ }
+{
+    let mut set = [0u16; 452];
+    flags_through(l, table, c, &mut set)
+}
+
 fn wrong_flag(l: Layout, table: &[u16]) -> bool
-    requires { ⌜ Sized l × (wrongLength l (now table) ≡ false) ⌝ }
+    requires { ⌜ Sized l × (wrongLength l (now table) ≡ false) × (wrongValue l (now table) ≡ false) ⌝ }
     ensures { λ r. ⌜ r ≡ wrongFlag l (now (table .entry)) ⌝ }
 {
     let mut c = 0;
     while c < l.nc {
-        if bad_flags(l, table, c) {
+        if carrier_flags(l, table, c) {
             return true;
         }
         c += 1;

@@ -5,6 +5,7 @@ pub mod Running
 pub mod Written
 pub mod Rows
 pub mod Accepted
+pub mod Places
 pub mod Numbers
 pub mod Turn
 pub mod SentStep

@@ -26,7 +26,8 @@ use Rattle.psk.specs.Symbols.{Sending, leadPoint, leadSymbol, frameSymbo
 use Rattle.psk.specs.Turn.{point-turn}
 use Rattle.psk.specs.SentStep.{running-turn}
 use Rattle.psk.specs.Size.{symbol-within}
-use Rattle.psk.specs.Accepted.{Ready, lead-drawn}
+use Rattle.psk.specs.Accepted.{Ready}
+use Rattle.psk.specs.Places.{lead-drawn}
 
 -- both parts at most 2 ^ 8
 abbrev pub Small : Complex → Type 0

@@ -39,7 +39,7 @@ wrongDraws l frames draws = wrongBytes (l .nc * (frames + 8)) (2 ^ l .bps) draws
 unfoldable pub wrongRows : Layout → ℕ → ℕ → Bool
 wrongRows l frames room = not (eqb room (2 * (l .nc * rowLength l frames)))
 
--- rows 8 to 11, for rows that hold `room` f64
+-- conditions 8 to 11, where the rows hold `room` f64
 unfoldable pub senderFault : Layout → ℕ → List ℕ → List ℕ → ℕ → Fault
 senderFault l frames payload draws room =
     firstFault
@@ -49,7 +49,7 @@ senderFault l frames payload draws room =
     ∷ (Buffer, wrongRows l frames room)
     ∷ [])
 
--- rows 3 to 11
+-- conditions 3 to 11
 unfoldable pub sendFault : Layout → Sending → ℕ → Fault
 sendFault l m room = orElse (tableFault l (m .markers) (m .phasors)) (senderFault l (m .frames) (m .payload) (m .draws) room)
 

@@ -22,7 +22,8 @@ use Rattle.psk.specs.Symbols.{Sending, IsCell, referencePoint, bitPlace,
 use Rattle.psk.specs.Step.{sentStep}
 use Rattle.psk.specs.Turn.{Turn, turn-mul, point-turn, cell-step, mark-step}
 use Rattle.psk.specs.Numbers.{cellList, Numbered, entry-numbered}
-use Rattle.psk.specs.Accepted.{Ready, reference-drawn, label-in, cell-ready, frame-ready}
+use Rattle.psk.specs.Accepted.{Ready}
+use Rattle.psk.specs.Places.{reference-drawn, label-in, cell-ready, frame-ready}
 
 -- frame f of carrier c of an accepted call
 module _ (l : Layout) (m : Sending) (room : ℕ) (r : Ready l m room) (f c : ℕ) (F : f < m .frames) (C : c < l .nc) where

@@ -9,16 +9,16 @@ use Rattle.dat.proofs.bad_flags.Statement.{statement}
 use Rattle.dat.proofs.bad_flags.Tie as tie
 
 abbrev Inv-loop : tie.InvT-loop
-Inv-loop l table c j₀ j = (j ≤ l .nsym) × (any (badFlag l table c) j ≡ false)
+Inv-loop l table c set j₀ j = (j ≤ l .nsym) × (any (badFlag l table c) j ≡ false)
 
 abbrev μ-loop : tie.MeasureT-loop
-μ-loop l table c j₀ j = l .nsym - j
+μ-loop l table c set j₀ j = l .nsym - j
 
 loop-holds : tie.Need-loop-holds Inv-loop μ-loop
 loop-holds c = (omega arith, any-none _)
 
 bad-flag-requires : tie.Need-bad-flag-requires Inv-loop μ-loop
-bad-flag-requires c κs = (c .before .before .before .before .pre, c .if1 .taken)
+bad-flag-requires c κs = let s = c .before .before .before .before .before in (s .pre .0, s .pre .1, c .if1 .taken)
 
 returns : tie.Need-returns Inv-loop μ-loop
 returns c = sym (any-at _ _ (c .before .before .before .before .loop .j) (c .before .before .if1 .taken) (sym (c .before .bad-flag .ensures) ∙ c .if2 .taken))

@@ -46,7 +46,7 @@ returns-2 : tie.Need-returns-2
 returns-2 c = fourth _ _ (length-right _ _ (c .before .before .if1 .left)) (sym (c .before .wrong-value .ensures) ∙ c .if2 .taken)
 
 wrong-flag-requires : tie.Need-wrong-flag-requires
-wrong-flag-requires c κs = (c .before .before .before .before .before .before .pre, length-right _ _ (c .before .before .if1 .left))
+wrong-flag-requires c κs = (c .before .before .before .before .before .before .pre, length-right _ _ (c .before .before .if1 .left), sym (c .before .wrong-value .ensures) ∙ c .if2 .left)
 
 returns-3 : tie.Need-returns-3
 returns-3 c =

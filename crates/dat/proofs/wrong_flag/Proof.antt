@@ -17,12 +17,12 @@ abbrev μ-loop : tie.MeasureT-loop
 loop-holds : tie.Need-loop-holds Inv-loop μ-loop
 loop-holds c = (omega arith, any-none _)
 
-bad-flags-requires : tie.Need-bad-flags-requires Inv-loop μ-loop
-bad-flags-requires c κs = record { sized = c .before .before .before .before .pre .0; length-ok = c .before .before .before .before .pre .1; carrier = c .if1 .taken }
+carrier-flags-requires : tie.Need-carrier-flags-requires Inv-loop μ-loop
+carrier-flags-requires c κs = let s = c .before .before .before .before in (record { sized = s .pre .0; length-ok = s .pre .1; carrier = c .if1 .taken }, s .pre .2)
 
 returns : tie.Need-returns Inv-loop μ-loop
 unfolding wrongFlag
-returns c = sym (any-at _ _ (c .before .before .before .before .loop .c) (c .before .before .if1 .taken) (sym (c .before .bad-flags .ensures) ∙ c .if2 .taken))
+returns c = sym (any-at _ _ (c .before .before .before .before .loop .c) (c .before .before .if1 .taken) (sym (c .before .carrier-flags .ensures) ∙ c .if2 .taken))
 
 add-c : tie.Need-add-c Inv-loop μ-loop
 add-c c = omega arith
@@ -31,7 +31,7 @@ loop-less : tie.Need-loop-less Inv-loop μ-loop
 loop-less c = omega arith
 
 loop-again : tie.Need-loop-again Inv-loop μ-loop
-loop-again c = (omega arith, any-more _ _ (c .before .before .before .before .loop .inv .1) (sym (c .before .bad-flags .ensures) ∙ c .if2 .left))
+loop-again c = (omega arith, any-more _ _ (c .before .before .before .before .loop .inv .1) (sym (c .before .carrier-flags .ensures) ∙ c .if2 .left))
 
 returns-2 : tie.Need-returns-2 Inv-loop μ-loop
 unfolding wrongFlag
@@ -44,7 +44,7 @@ wrong-flag-spec =
     Inv-loop
     μ-loop
     loop-holds
-    bad-flags-requires
+    carrier-flags-requires
     returns
     add-c
     loop-less

@@ -3,7 +3,7 @@ use mathlib.Core.Path.{sym, _∙_}
 use native.Mathlib.Omega.{arith}
 use borrow.Author.Needs.{needs}
 use Rattle.psk.specs.Running.{advanced-mark, advanced-cell}
-use Rattle.psk.specs.Accepted.{label-in}
+use Rattle.psk.specs.Places.{label-in}
 use Rattle.psk.proofs.advance.Statement.{statement}
 use Rattle.psk.proofs.advance.Tie as tie
 

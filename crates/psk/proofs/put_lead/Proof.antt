@@ -16,7 +16,8 @@ use Rattle.level.specs.Sized.{sized}
 use Rattle.dat.specs.Accepted.{phasor-in}
 use Rattle.psk.specs.Symbols.{leadPoint, symbolOf, leadSymbol}
 use Rattle.psk.specs.Written.{written, written-none, written-step, written-length, written-same}
-use Rattle.psk.specs.Accepted.{LeadReady, lead-drawn, draws-small, starts-small, phasors-small, row-room}
+use Rattle.psk.specs.Accepted.{LeadReady}
+use Rattle.psk.specs.Places.{lead-drawn, draws-small, starts-small, phasors-small, row-room}
 use Rattle.psk.proofs.put_lead.Statement.{statement}
 use Rattle.psk.proofs.put_lead.Tie as tie
 

@@ -4,7 +4,7 @@ use mathlib.Core.Path.{ap, _∙_}
 use native.Mathlib.Omega.{arith}
 use Rattle.level.specs.Sized.{sized}
 use Rattle.psk.specs.Send.{wrongBytes, wrongDraws}
-use Rattle.psk.specs.Accepted.{draws-small}
+use Rattle.psk.specs.Places.{draws-small}
 use borrow.Author.Needs.{needs}
 use Rattle.psk.proofs.wrong_draws.Statement.{statement}
 use Rattle.psk.proofs.wrong_draws.Tie as tie
