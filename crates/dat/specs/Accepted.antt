@@ -33,11 +33,11 @@ pub record Phasors (l : Layout) (phasors : List Float) : Type 0 where
   pub sizes-ok : wrongSize l phasors ≡ false
 
 -- ---- from the fault that is found to these records
-clear-first : (r : Refusal) (b : Bool) (rest : Fault) → firstOf r b rest ≡ Clear → (b ≡ false) × (rest ≡ Clear)
+pub clear-first : (r : Refusal) (b : Bool) (rest : Fault) → firstOf r b rest ≡ Clear → (b ≡ false) × (rest ≡ Clear)
 clear-first r false rest h = (refl, h)
 clear-first r true rest h = (absurd (let z : _≡_ {A = ℕ} 0 1 = cc in omega arith), absurd (let z : _≡_ {A = ℕ} 0 1 = cc in omega arith))
 
-clear-both : (f g : Fault) → orElse f g ≡ Clear → (f ≡ Clear) × (g ≡ Clear)
+pub clear-both : (f g : Fault) → orElse f g ≡ Clear → (f ≡ Clear) × (g ≡ Clear)
 clear-both Clear g h = (refl, h)
 clear-both (Met r) g h = (h, absurd (let z : _≡_ {A = ℕ} 0 1 = cc in omega arith))
 

@@ -119,7 +119,7 @@ count-values v (suc m) n inside once =
     other false x s d = ne-eqb x s (λ e. d (sym e))
 
 -- ---- an accepted table
-neither : (a b : Bool) → (a || b) ≡ false → (a ≡ false) × (b ≡ false)
+pub neither : (a b : Bool) → (a || b) ≡ false → (a ≡ false) × (b ≡ false)
 neither false false h = (refl, refl)
 neither false true h = (refl, h)
 neither true b h = (h, absurd (let z : _≡_ {A = ℕ} 0 1 = cc in omega arith))

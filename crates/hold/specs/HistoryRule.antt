@@ -5,8 +5,7 @@ use mathlib.Core.List.{List, [], _∷_, _++_, append-assoc, append-nil}
 use mathlib.Core.Logic.{_↔_}
 use Prim.Native.Nat.{ℕ, _+_, _≤_, _<_}
 use native.Mathlib.Omega.{arith}
-use lib.Dec.{ltb}
-use lib.Ieee.{Float, lt, isNan}
+use lib.Ieee.{Float, lt}
 use borrow.Author.Tests.{ltb-true, ltb-false}
 use Rattle.laws.specs.Order.{clash, lt-step, lt-trans}
 use Rattle.refusal.specs.declared.Position.{Position}

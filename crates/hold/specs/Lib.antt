@@ -1,4 +1,5 @@
 pub mod Offer
+pub mod OfferLaws
 pub mod History
 pub mod Releases
 pub mod HistoryRule

@@ -1,7 +1,7 @@
 -- A lone offer (01, "Where each fault is met", condition 21): its answer, and the hold after it. Definitions, and what no fault says.
 use mathlib.Core.Path.{_≡_, refl, sym}
 use mathlib.Core.Bool.{Bool, true, false, not, _||_}
-use mathlib.Core.List.{List, [], _∷_}
+use mathlib.Core.List.{[], _∷_}
 use Prim.Native.Nat.{ℕ, _^_}
 use native.Mathlib.Omega.{arith}
 use lib.Dec.{ltb}

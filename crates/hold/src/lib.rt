@@ -1,6 +1,6 @@
 // The hold of the search (dsp.rs, `Hold`): it keeps the best candidate until an offer comes more than `hold` positions after it.
 ghost use mathlib.Core.Path.{_≡_};
-ghost use Rattle.hold.specs.Offer.{atLeast, due, taken, keeping, releasing, offered, freshHold, Room};
+ghost use Rattle.hold.specs.Offer.{atLeast, due, taken, keeping, offered, freshHold, Room};
 ghost use Rattle.hold.specs.LoneOffer.{outside, badHeld, badCandidate, badOffer, LoneOffers};
 use refusal::Position;
 use refusal::Refusal;
@@ -206,4 +206,13 @@ pub fn lone_offer(h: Hold, p: Position, c: Candidate) -> LoneOffered
         answer: LoneAnswer::Answered(release),
         next,
     }
+}
+
+// A lone offer over a hold that the caller keeps: each offer changes it.
+pub fn lone_offer_to(h: &mut Hold, p: Position, c: Candidate) -> LoneAnswer
+    ensures { λ r. ⌜ LoneOffers (now (h .entry)) p c r (now (h .exit)) ⌝ }
+{
+    let o = lone_offer(*h, p, c);
+    *h = o.next;
+    o.answer
 }

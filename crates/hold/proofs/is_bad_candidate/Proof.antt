@@ -1,5 +1,4 @@
 -- `hold::is_bad_candidate` meets its contract: by cases of the candidate. Assumes nothing.
-use mathlib.Core.Path.{_≡_, refl}
 use borrow.Author.Needs.{needs}
 use Rattle.hold.specs.LoneOffer.{badCandidate}
 use Rattle.hold.proofs.is_bad_candidate.Statement.{statement}

@@ -1,5 +1,5 @@
 -- `hold::is_bad_held` meets its contract: by cases of what is held. Assumes nothing.
-use mathlib.Core.Path.{_≡_, sym, _∙_}
+use mathlib.Core.Path.{sym, _∙_}
 use borrow.Author.Needs.{needs}
 use Rattle.hold.specs.LoneOffer.{badHeld}
 use Rattle.hold.proofs.is_bad_held.Statement.{statement}

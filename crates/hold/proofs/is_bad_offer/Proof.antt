@@ -1,5 +1,5 @@
 -- `hold::is_bad_offer` meets its contract: at each return the parts of the condition up to there are known. Assumes nothing.
-use mathlib.Core.Path.{_≡_, sym, _∙_}
+use mathlib.Core.Path.{sym, _∙_}
 use borrow.Author.Needs.{needs}
 use Rattle.hold.specs.LoneOffer.{badOffer}
 use Rattle.hold.proofs.is_bad_offer.Statement.{statement}

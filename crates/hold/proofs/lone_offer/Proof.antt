@@ -1,5 +1,5 @@
 -- `hold::lone_offer` meets its contract: refused where 21 is met, and otherwise `offer`'s. Assumes nothing.
-use mathlib.Core.Path.{_≡_, sym, _∙_}
+use mathlib.Core.Path.{sym, _∙_}
 use borrow.Author.Needs.{needs}
 use Rattle.hold.specs.LoneOffer.{lone-room, lone-refused, lone-answered}
 use Rattle.hold.proofs.lone_offer.Statement.{statement}

@@ -1,12 +1,11 @@
 -- `hold::offer` meets its contract: by what is held, and whether it is due. Assumes nothing.
 use mathlib.Core.Path.{_≡_, sym, _∙_}
 use mathlib.Core.Bool.{true, false}
-use Prim.Native.Nat.{ℕ, _+_, _<_, _^_}
 use lib.Ieee.{Float}
 use borrow.Author.Needs.{needs}
 use borrow.Author.Tests.{not-true, not-false}
 use Rattle.refusal.specs.declared.Position.{Position}
-use Rattle.hold.specs.Offer.{Room, due, keeping, releasing, offeredAt, offered}
+use Rattle.hold.specs.Offer.{due, keeping, releasing, offeredAt, offered}
 use Rattle.hold.specs.declared.Held.{Held}
 use Rattle.hold.specs.declared.Held.the-variants.{Empty, At}
 use Rattle.hold.specs.declared.Candidate.{Candidate}

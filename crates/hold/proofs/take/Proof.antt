@@ -1,6 +1,6 @@
 -- `hold::take` meets its contract: at each return the two tests of `taken` are known. Assumes nothing.
-use mathlib.Core.Path.{_≡_, refl, sym, _∙_}
-use mathlib.Core.Bool.{Bool, true, false}
+use mathlib.Core.Path.{_≡_, sym, _∙_}
+use mathlib.Core.Bool.{true, false}
 use lib.Ieee.{Float, lt}
 use borrow.Author.Needs.{needs}
 use borrow.Author.Tests.{not-true, not-false}

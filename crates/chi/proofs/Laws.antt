@@ -1,0 +1,69 @@
+-- Rows of tables: a loop over a row makes a map of it, and row after row makes the table. Assumes nothing.
+use Prim.Native.Nat.{ℕ, suc, _+_, _-_, _*_, _≤_, _<_}
+use mathlib.Core.Path.{_≡_, sym, ap, _∙_}
+use mathlib.Core.List.{List, map, append-nil}
+use native.Mathlib.Nat.{mul-le-mul, mul-le-mul-right, suc-mul}
+use native.Mathlib.Omega.{arith}
+use lib.ListN.{length, getD, length-map, List·getD-map, drop-of-length-le}
+use lib.Seq.{ext-getD}
+use lib.Ieee.{Float}
+use Rattle.complex.specs.declared.Complex.{Complex}
+use Rattle.complex.specs.Lists.{tabulate, length-tabulate, getD-tabulate}
+use Rattle.complex.specs.Pairs.{parts, cfilled}
+use Rattle.level.specs.declared.Layout.{Layout}
+use Rattle.level.specs.Rows.{IsLayout}
+use Rattle.level.specs.Sized.{Sized, sized}
+use Rattle.dat.specs.Accepted.{Markers}
+use Rattle.chi.specs.declared.Sum.{Sum}
+use Rattle.chi.specs.declared.Sum.the-variants.{Pilot, Data}
+use Rattle.chi.specs.Table.{symbolsOf, perCarrier, partOf, Row}
+use Rattle.chi.specs.Cells.{kept, symbols-count, symbols-row, part-most}
+
+-- the table of a function of a list's entries
+pub tabulate-map : {A B : Type 0} (f : A → B) (xs : List A) (d : A) → tabulate (λ k. f (getD xs k d)) (length xs) ≡ map f xs
+tabulate-map f xs d =
+    ext-getD (f d) (tabulate (λ k. f (getD xs k d)) (length xs)) (map f xs) (len ∙ sym (length-map xs f))
+    (λ k h. getD-tabulate (λ k. f (getD xs k d)) (length xs) k (f d) (rw len at h) ∙ sym (List·getD-map f xs k d))
+  where
+    len : length (tabulate (λ k. f (getD xs k d)) (length xs)) ≡ length xs
+    len = length-tabulate (λ k. f (getD xs k d)) (length xs)
+
+-- a slice of parts that is filled to its end
+pub cfilled-all : (f : ℕ → Complex) (n : ℕ) (l : List Float) → length l ≡ 2 * n → cfilled f n l ≡ parts (tabulate f n)
+unfolding cfilled
+cfilled-all f n l e =
+    let h : length l ≤ 2 * n = omega arith in
+    rw (drop-of-length-le l h) (append-nil (parts (tabulate f n)))
+
+-- the place of a cell fits a usize
+pub parts-small : (sum : Sum) (l : Layout) (p c : ℕ) → Sized l → c < l .nc → p ≡ partOf sum c → p * (2 * l .keep + 4000) ≤ 39 * 40992
+parts-small sum l p c z C e =
+    let a = part-most sum c in
+    let b = z .nc-most in
+    let k = z .keep-is in
+    let n = z .nsym-most in
+    mul-le-mul {n₂ = 39} {m₂ = 40992} (omega arith) (omega arith)
+
+-- the symbols of a carrier, as a row of its room
+module _ (sum : Sum) (l : Layout) (markers : List ℕ) (c : ℕ) (xs : List ℕ) (i : IsLayout l) (m : Markers l markers) (C : c < l .nc) (e : xs ≡ symbolsOf sum l markers c) where
+  pub row-of : Row l c xs
+  row-of = rw e (symbols-row l markers i m sum c C)
+
+  pub row-length : length xs ≡ perCarrier sum l
+  row-length = ap length e ∙ symbols-count l markers i m sum c C
+
+-- no row is longer than 450
+pub per-small : (sum : Sum) (l : Layout) → IsLayout l → perCarrier sum l ≤ 450
+per-small Pilot l i = omega (arith, sized l i .markers-most)
+per-small Data l i = omega (arith, kept l i .most, sized l i .cells-are, sized l i .nsym-most)
+
+-- carrier c's row stands inside the tables, which are short
+pub row-room : (sum : Sum) (l : Layout) (n c : ℕ) → IsLayout l → n ≡ perCarrier sum l → c < l .nc → (c * n + n ≤ l .nc * perCarrier sum l) × (l .nc * perCarrier sum l ≤ 1500)
+row-room sum l n c i e C =
+    let a : suc c * perCarrier sum l ≤ l .nc * perCarrier sum l = mul-le-mul-right (perCarrier sum l) C in
+    let b : suc c * perCarrier sum l ≡ c * perCarrier sum l + perCarrier sum l = suc-mul c (perCarrier sum l) in
+    (rw e (omega arith), all-small sum l i)
+  where
+    all-small : (sum : Sum) (l : Layout) → IsLayout l → l .nc * perCarrier sum l ≤ 1500
+    all-small Pilot l i = omega (arith, sized l i .marks-most)
+    all-small Data l i = kept l i .all

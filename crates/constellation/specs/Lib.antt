@@ -1,0 +1,4 @@
+pub mod Alphabet
+pub mod Label
+pub mod Bits
+pub mod Points

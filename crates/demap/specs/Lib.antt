@@ -1,0 +1,12 @@
+pub mod Nearest
+pub mod Candidates
+pub mod Soft
+pub mod Fill
+pub mod NearestLaws
+pub mod CandidateLaws
+pub mod SoftLaws
+pub mod PskLaws
+pub mod Cases
+pub mod PskCandidates
+pub mod Gain
+pub mod GainLaws

@@ -1,0 +1,4 @@
+pub mod Filling
+pub mod Values
+pub mod Tracks
+pub mod Carriers

@@ -1,0 +1,4 @@
+pub mod Meter
+pub mod PayloadBits
+pub mod MeterLaws
+pub mod CellBound

@@ -1,0 +1,57 @@
+-- Over every list of calls from an opening, refused ones included: which are accepted, what the tracks hold, and what is released. Assumes nothing.
+use Prim.Native.Nat.{ℕ, _*_, _^_, _≤_}
+use mathlib.Core.Path.{_≡_, refl}
+use mathlib.Core.List.{List}
+use mathlib.Core.Logic.{_↔_}
+use lib.ListN.{length}
+use lib.Ieee.{Float}
+use Rattle.level.specs.declared.Layout.{Layout}
+use Rattle.level.specs.Lengths.{memoryLength}
+use Rattle.level.specs.Rows.{IsLayout}
+use Rattle.hold.specs.declared.Block.the-variants.{First}
+use Rattle.hold.specs.Offer.{freshHold}
+use Rattle.hold.specs.History.{Detection, History}
+use Rattle.hold.specs.HistoryRule.{history-rule}
+use Rattle.rx.specs.declared.State.{State}
+use Rattle.rx.specs.declared.FeedAnswer.{FeedAnswer}
+use Rattle.rx.specs.Receiver.{Feed, fed}
+use Rattle.rx.specs.View.{view}
+use Rattle.rx.specs.Open.{openedState}
+use Rattle.rx.specs.Feed.{Given}
+use Rattle.rx.specs.Sound.{not-wrong}
+use Rattle.rx.specs.Once.{once}
+use Rattle.modem.specs.Ideal.{accepted, verdicts, sampleRow, broughtBy, offersOf}
+use Rattle.modem.specs.Calls.{Calls, detections}
+use Rattle.modem.specs.Follows.{Follows}
+use Rattle.modem.proofs.Fresh.{reached-open, offers-number, end-open, place-open, hold-open}
+use Rattle.modem.proofs.Brought.{agrees-open}
+use Rattle.modem.proofs.Lists.{Led, calls-lead}
+
+module _ (l : Layout) (i : IsLayout l) (start : ℕ) (early : start ≤ 2 ^ 40) (memory : List Float) (room : length memory ≡ 2 * memoryLength l)
+    (gs : List Given) (s : State) (memory′ : List Float) (rs : List FeedAnswer) (calls : Calls (openedState l start) memory gs s memory′ rs) where
+  led : Led l i start (sampleRow start (accepted l start gs)) (broughtBy start (accepted l start gs)) (openedState l start) (accepted l start gs) (verdicts l start gs) s memory′ rs
+  led =
+      rw (end-open l start) at
+      (calls-lead l i start (sampleRow start (accepted l start gs)) (broughtBy start (accepted l start gs)) calls (reached-open l start _ _ i memory early) room
+      (rw (end-open l start) (agrees-open start (accepted l start gs))))
+
+  -- what the calls answer, leave and release follows from the opening and from what they are given
+  pub follows : Follows l start gs s memory′ rs
+  unfolding offersOf
+  follows =
+      record {
+        answers = led .answers;
+        in-order = not-wrong l (length memory′) s (led .reached .sound) (led .room);
+        samples-end = rw (end-open l start) at (led .ends);
+        tracks = led .reached .shows;
+        released = rw (hold-open l start, place-open l start, end-open l start) at (led .released);
+      }
+
+  -- "each release is the earliest of greatest metric among candidates offered strictly between release offers at positions not below the block": the detections of all the
+  -- feeds follow the history rule over the offers of the joined samples, and no other list does
+  pub detections-rule : (ds : List Detection) → History 8 (l .dead) First (offersOf l start (accepted l start gs)) ds ↔ (ds ≡ detections rs)
+  detections-rule ds = rw (follows .released) (history-rule (freshHold 8 (l .dead)) (offersOf l start (accepted l start gs)) refl (offers-number l start (accepted l start gs)) ds)
+
+  -- "A feed releases at most one": the next one too, whatever it brings
+  pub next-once : (f : Feed) → length (f .samples) ≤ 4000 → length (fed l f (view l s memory′) .released) ≤ 1
+  next-once f few = once l i s memory′ f (follows .in-order) few

@@ -1,0 +1,12 @@
+pub mod Window
+pub mod Local
+pub mod Chain
+pub mod Judged
+pub mod Reached
+pub mod Brought
+pub mod Lists
+pub mod Fresh
+pub mod Detections
+pub mod Refused
+pub mod Opened
+pub mod Marked

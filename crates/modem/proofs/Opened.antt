@@ -1,0 +1,49 @@
+-- An opening that is answered gives the fresh state of the layout chosen, at a start of at most 2^40. Assumes nothing.
+use Prim.Native.Nat.{ℕ, _*_, _^_}
+use mathlib.Core.Path.{_≡_, refl, sym}
+use mathlib.Core.List.{List}
+use lib.ListN.{length}
+use lib.Ieee.{Float}
+use borrow.Author.Tests.{ltb-false}
+use Rattle.refusal.specs.declared.Refusal.the-variants as no
+use Rattle.refusal.specs.declared.Fault.{Fault}
+use Rattle.refusal.specs.declared.Fault.the-variants.{Clear, Met}
+use Rattle.refusal.specs.Outcome.{Outcome, refused, answered, andThen, judged}
+use Rattle.level.specs.declared.Layout.{Layout}
+use Rattle.level.specs.Lengths.{memoryLength}
+use Rattle.level.specs.Layout.{chosen}
+use Rattle.level.specs.Rows.{is-layout}
+use Rattle.dat.specs.Tables.{tableFault}
+use Rattle.rx.specs.declared.State.{State}
+use Rattle.rx.specs.declared.FeedAnswer.{FeedAnswer}
+use Rattle.rx.specs.Feed.{Given}
+use Rattle.rx.specs.Conditions.{wrongStart}
+use Rattle.rx.specs.Open.{openedState, startFault, openFault, openOutcome}
+use Rattle.modem.specs.Calls.{Calls}
+use Rattle.modem.specs.Follows.{OpenedAs, Follows}
+use Rattle.modem.proofs.Detections.{follows}
+use Rattle.modem.proofs.Judged.{or-else-clear, first-clear, refused-answered}
+
+pub opened-as : (hz rec : ℕ) (markers : List ℕ) (phasors : List Float) (start : ℕ) (book : List Float) (s : State)
+    → openOutcome hz rec markers phasors start book ≡ answered s → OpenedAs hz rec start s
+unfolding openOutcome openFault startFault wrongStart
+opened-as hz rec markers phasors start book s e = go (chosen hz rec) refl e
+  where
+    with-fault : (l : Layout) → chosen hz rec ≡ answered l → (t : Fault) → openFault l markers phasors start book ≡ t → judged t (answered (openedState l start)) ≡ answered s → OpenedAs hz rec start s
+    with-fault l c (Met r) u v = refused-answered _ s v
+    with-fault l c Clear u v =
+        let r = first-clear no.Start (wrongStart start) _ (or-else-clear (tableFault l markers phasors) _ u) in
+        let q : openedState l start ≡ s = cc in
+        record { layout = l; is-one = is-layout hz rec l c; chosen-is = c; state = sym q; early = ltb-false (2 ^ 40) start (r .0) }
+
+    go : (c : Outcome Layout) → chosen hz rec ≡ c → andThen c (λ l. judged (openFault l markers phasors start book) (answered (openedState l start))) ≡ answered s → OpenedAs hz rec start s
+    go (refused n) c v = refused-answered n s v
+    go (answered l) c v = with-fault l c (openFault l markers phasors start book) refl v
+
+-- So what calls answer, leave and release after an answered opening follows from the opening and from what they are given, in any memory of the layout's length.
+pub opened-follows : (hz rec start : ℕ) (s : State) (memory : List Float)
+    → (o : OpenedAs hz rec start s) → length memory ≡ 2 * memoryLength (o .layout)
+    → (gs : List Given) (s′ : State) (memory′ : List Float) (rs : List FeedAnswer) → Calls s memory gs s′ memory′ rs
+    → Follows (o .layout) start gs s′ memory′ rs
+opened-follows hz rec start s memory o room gs s′ memory′ rs c =
+    follows (o .layout) (o .is-one) start (o .early) memory room gs s′ memory′ rs (rw (o .state) at c)

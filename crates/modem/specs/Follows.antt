@@ -1,0 +1,59 @@
+-- What calls of `feed` answer, leave and release, said by the opening and by what the calls are given alone. Definitions only.
+use Prim.Native.Nat.{ℕ, _+_, _^_, _≤_}
+use mathlib.Core.Path.{_≡_}
+use mathlib.Core.Bool.{true, false}
+use mathlib.Core.List.{List, [], _∷_, map}
+use lib.ListN.{length}
+use lib.Ieee.{Float}
+use Rattle.refusal.specs.declared.Refusal.the-variants as no
+use Rattle.refusal.specs.Outcome.{Outcome, answered, andThen, firstFault, orElse, judged}
+use Rattle.level.specs.declared.Layout.{Layout}
+use Rattle.level.specs.Layout.{chosen}
+use Rattle.level.specs.Rows.{IsLayout}
+use Rattle.dat.specs.Tables.{tableFault}
+use Rattle.hold.specs.Offer.{freshHold}
+use Rattle.hold.specs.Releases.{releases}
+use Rattle.rx.specs.declared.State.{State}
+use Rattle.rx.specs.declared.FeedAnswer.{FeedAnswer}
+use Rattle.rx.specs.View.{view}
+use Rattle.rx.specs.Open.{openedState}
+use Rattle.rx.specs.Conditions.{spanEnd, wrongBook, wrongState}
+use Rattle.rx.specs.Feed.{Given}
+use Rattle.modem.specs.Ideal.{accepted, verdicts, joined, sampleRow, broughtBy, receiverOf, offersOf}
+use Rattle.modem.specs.Calls.{detections, answersOf}
+
+-- an opening of bandwidth hz and record rec at start answered with state s
+pub record OpenedAs (hz rec start : ℕ) (s : State) : Type 0 where
+  pub layout : Layout
+  pub is-one : IsLayout layout
+  pub chosen-is : chosen hz rec ≡ answered layout
+  pub state : s ≡ openedState layout start
+  pub early : start ≤ 2 ^ 40
+
+-- calls that are given gs to a receiver that opened at start answer rs, and leave state s and memory
+pub record Follows (l : Layout) (start : ℕ) (gs : List Given) (s : State) (memory : List Float) (rs : List FeedAnswer) : Type 0 where
+  -- each is refused by the first row that it meets by what it is given, and accepted if it meets none
+  pub answers : answersOf rs ≡ verdicts l start gs
+  -- 17 does not refuse the state
+  pub in-order : wrongState l (length memory) s ≡ false
+  -- the accepted samples are all there
+  pub samples-end : spanEnd (s .samples) ≡ start + length (joined (accepted l start gs))
+  -- every track is a part of its row, and ends where the row does
+  pub tracks :
+      view l s memory
+      ≡ receiverOf l start (sampleRow start (accepted l start gs)) (broughtBy start (accepted l start gs)) (s .samples .base .0) (spanEnd (s .samples)) (s .filtered .base .0) (s .search) (s .hold)
+  -- all releases together are those of one run of offers to a fresh hold
+  pub released : detections rs ≡ releases (freshHold 8 (l .dead)) (offersOf l start (accepted l start gs))
+
+-- where the memory has another length every feed is refused: by 17, or by a row before it
+unfoldable pub withoutRoom : Given → Outcome (Unit {0})
+withoutRoom g =
+    andThen (chosen (g .bandwidth) (g .rec))
+    (λ k. judged (orElse (tableFault k (g .markers) (g .phasors)) (firstFault ((no.TurnBook, wrongBook (g .book)) ∷ (no.State, true) ∷ []))) (answered tt))
+
+-- what calls leave that are all refused
+pub record AllRefused (s : State) (memory : List Float) (gs : List Given) (s′ : State) (memory′ : List Float) (rs : List FeedAnswer) : Type 0 where
+  pub state : s′ ≡ s
+  pub memory-is : memory′ ≡ memory
+  pub answers : answersOf rs ≡ map withoutRoom gs
+  pub released : detections rs ≡ []

@@ -1,0 +1,3 @@
+pub mod Ideal
+pub mod Calls
+pub mod Follows

@@ -1,0 +1,248 @@
+-- What conditions 1 to 11 leave: a call all of whose places lie inside what it was lent. Assumes nothing.
+use Prim.Native.Nat.{ℕ, suc, _+_, _-_, _*_, _^_, _<_, _≤_}
+use mathlib.Core.Path.{_≡_, refl, ap, _∙_}
+use mathlib.Core.Bool.{Bool, true, false, not, or-true}
+use mathlib.Core.List.{List}
+use native.Mathlib.Nat.{le-trans, le-of-lt, mul-le-mul, mul-le-mul-right}
+use native.Mathlib.Omega.{arith}
+use lib.Dec.{ltb, leb, eqb}
+use lib.ListN.{length, getD}
+use lib.Ieee.{Float}
+use borrow.Author.Tests.{ltb-false, leb-false, le-leb, eqb-true, eq-eqb, ne-eqb, not-false}
+use Rattle.refusal.specs.declared.Fault.the-variants.{Clear}
+use Rattle.refusal.specs.Any.{any, any-at, any-below}
+use Rattle.constellation.specs.Label.{labelAt}
+use Rattle.constellation.specs.Bits.{label-below}
+use Rattle.level.specs.declared.Layout.{Layout}
+use Rattle.level.specs.Lengths.{cells, rowLength}
+use Rattle.level.specs.Rows.{IsLayout}
+use Rattle.level.specs.Sized.{Sized, sized, row-most}
+use Rattle.dat.specs.Tables.{marked, tableFault}
+use Rattle.dat.specs.Cells.{cellsOf}
+use Rattle.dat.specs.Counts.{neither, one, count-next, count-le, cells-count}
+use Rattle.dat.specs.Accepted.{Markers, Phasors, clear-first, clear-both, tables-of, rows-small, row-in}
+use Rattle.psk.specs.Symbols.{Sending, cellsBefore, cellNumber, bitPlace}
+use Rattle.psk.specs.Send.{wrongFrames, wrongBytes, wrongPayload, wrongDraws, wrongRows, senderFault, sendFault}
+
+-- draws that condition 10 accepts
+pub record Draws (l : Layout) (frames : ℕ) (draws : List ℕ) : Type 0 where
+  pub count : length draws ≡ l .nc * (frames + 8)
+  pub labels : (i : ℕ) → i < length draws → getD draws i 0 < 2 ^ l .bps
+
+-- a payload that condition 9 accepts
+pub record Payload (l : Layout) (frames : ℕ) (payload : List ℕ) : Type 0 where
+  pub count : length payload ≡ frames * l .n
+  pub bits : (i : ℕ) → i < length payload → getD payload i 0 < 2
+
+-- a call that conditions 1 to 11 accept
+pub record Ready (l : Layout) (m : Sending) (room : ℕ) : Type 0 where
+  pub layout : IsLayout l
+  pub markers-ok : Markers l (m .markers)
+  pub phasors-ok : Phasors l (m .phasors)
+  pub frames-least : 1 ≤ m .frames
+  pub frames-most : m .frames ≤ 4
+  pub payload-ok : Payload l (m .frames) (m .payload)
+  pub draws-ok : Draws l (m .frames) (m .draws)
+  pub room-is : room ≡ 2 * (l .nc * rowLength l (m .frames))
+
+-- ---- what its parts take of it
+-- draw i is there, and labels a point
+pub record Drawn (l : Layout) (draws : List ℕ) (i : ℕ) : Type 0 where
+  pub inside : i < length draws
+  pub label : getD draws i 0 < 2 ^ l .bps
+
+-- the leads of carrier c
+pub record LeadReady (l : Layout) (phasors : List Float) (frames : ℕ) (draws : List ℕ) (c room : ℕ) : Type 0 where
+  pub layout : IsLayout l
+  pub phasors-ok : Phasors l phasors
+  pub frames-most : frames ≤ 4
+  pub draws-ok : Draws l frames draws
+  pub carrier : c < l .nc
+  pub room-is : room ≡ 2 * (l .nc * rowLength l frames)
+
+-- the symbols of frame f of carrier c, written from place `at` on
+pub record FrameReady (l : Layout) (markers : List ℕ) (phasors : List Float) (payload draws : List ℕ) (c f at room : ℕ) : Type 0 where
+  pub layout : IsLayout l
+  pub markers-ok : Markers l markers
+  pub phasors-ok : Phasors l phasors
+  pub carrier : c < l .nc
+  pub frame : f < 4
+  pub whole : f * l .n + l .n ≤ length payload
+  pub bits : (i : ℕ) → i < length payload → getD payload i 0 < 2
+  pub reference : Drawn l draws (f * l .nc + c)
+  pub within : 2 * (at + l .nsym) ≤ room
+
+-- symbol s of carrier c, whose bits start at a place if it is a cell
+pub record CellReady (l : Layout) (markers payload : List ℕ) (c s place : ℕ) : Type 0 where
+  pub markers-ok : Markers l markers
+  pub carrier : c < l .nc
+  pub symbol : s < l .nsym
+  pub inside : marked l markers c s ≡ false → place + l .bps ≤ length payload
+  pub bits : (i : ℕ) → i < length payload → getD payload i 0 < 2
+
+-- ---- bytes, for the loop that tests them
+module _ (count limit : ℕ) (bytes : List ℕ) where
+  pub bytes-uncounted : (length bytes ≡ count → ⊥) → wrongBytes count limit bytes ≡ true
+  unfolding wrongBytes
+  bytes-uncounted h = rw (ne-eqb (length bytes) count h) refl
+
+  pub bytes-bad : (i : ℕ) → length bytes ≡ count → i < count → limit ≤ getD bytes i 0 → wrongBytes count limit bytes ≡ true
+  unfolding wrongBytes
+  bytes-bad i e h g =
+      rw (any-at (λ i. leb limit (getD bytes i 0)) (length bytes) i (omega arith) (le-leb limit (getD bytes i 0) g)) (or-true (not (eqb (length bytes) count)))
+
+  pub bytes-right : length bytes ≡ count → any (λ i. leb limit (getD bytes i 0)) count ≡ false → wrongBytes count limit bytes ≡ false
+  unfolding wrongBytes
+  bytes-right e h = rw (e, eq-eqb count count refl) h
+
+  pub bytes-of : wrongBytes count limit bytes ≡ false → (length bytes ≡ count) × ((i : ℕ) → i < length bytes → getD bytes i 0 < limit)
+  unfolding wrongBytes
+  bytes-of h =
+      let s = neither (not (eqb (length bytes) count)) (any (λ i. leb limit (getD bytes i 0)) (length bytes)) h in
+      (eqb-true _ _ (not-false _ (s .0)), λ i g. leb-false limit _ (any-below (λ i. leb limit (getD bytes i 0)) (length bytes) i (s .1) g))
+
+-- ---- from no fault to these records
+pub frames-of : (frames : ℕ) → wrongFrames frames ≡ false → (1 ≤ frames) × (frames ≤ 4)
+unfolding wrongFrames
+frames-of frames h =
+    let s = neither (ltb frames 1) (ltb 4 frames) h in
+    (ltb-false _ _ (s .0), ltb-false _ _ (s .1))
+
+pub rows-of : (l : Layout) (frames room : ℕ) → wrongRows l frames room ≡ false → room ≡ 2 * (l .nc * rowLength l frames)
+unfolding wrongRows
+rows-of l frames room h = eqb-true _ _ (not-false _ h)
+
+pub rows-right : (l : Layout) (frames room : ℕ) → room ≡ 2 * (l .nc * rowLength l frames) → wrongRows l frames room ≡ false
+unfolding wrongRows
+rows-right l frames room e = rw (eq-eqb _ _ e) refl
+
+pub rows-wrong : (l : Layout) (frames room : ℕ) → (room ≡ 2 * (l .nc * rowLength l frames) → ⊥) → wrongRows l frames room ≡ true
+unfolding wrongRows
+rows-wrong l frames room e = rw (ne-eqb _ _ e) refl
+
+pub ready-of : (l : Layout) (m : Sending) (room : ℕ) → IsLayout l → sendFault l m room ≡ Clear → Ready l m room
+unfolding sendFault senderFault wrongPayload wrongDraws
+ready-of l m room i h =
+    let s = clear-both (tableFault l (m .markers) (m .phasors)) (senderFault l (m .frames) (m .payload) (m .draws) room) h in
+    let t = tables-of l (m .markers) (m .phasors) (sized l i) (s .0) in
+    let a = clear-first _ (wrongFrames (m .frames)) _ (s .1) in
+    let b = clear-first _ (wrongPayload l (m .frames) (m .payload)) _ (a .1) in
+    let c = clear-first _ (wrongDraws l (m .frames) (m .draws)) _ (b .1) in
+    let d = clear-first _ (wrongRows l (m .frames) room) _ (c .1) in
+    let f = frames-of (m .frames) (a .0) in
+    let p = bytes-of (m .frames * l .n) 2 (m .payload) (b .0) in
+    let q = bytes-of (l .nc * (m .frames + 8)) (2 ^ l .bps) (m .draws) (c .0) in
+    record {
+      layout = i;
+      markers-ok = t .0;
+      phasors-ok = t .1;
+      frames-least = f .0;
+      frames-most = f .1;
+      payload-ok = record { count = p .0; bits = p .1 };
+      draws-ok = record { count = q .0; labels = q .1 };
+      room-is = rows-of l (m .frames) room (d .0);
+    }
+
+-- ---- draws and payload
+pub draws-small : (l : Layout) (frames : ℕ) → IsLayout l → frames ≤ 4 → l .nc * (frames + 8) ≤ 156
+draws-small l frames i F =
+    let a : frames + 8 ≤ 12 = omega arith in
+    mul-le-mul (sized l i .nc-most) a
+
+pub payload-small : (l : Layout) (frames : ℕ) → IsLayout l → frames ≤ 4 → frames * l .n ≤ 35776
+payload-small l frames i F = mul-le-mul F (sized l i .n-most)
+
+pub reference-drawn : (l : Layout) (frames : ℕ) (draws : List ℕ) (f c : ℕ) → Draws l frames draws → f < frames → c < l .nc → Drawn l draws (f * l .nc + c)
+reference-drawn l frames draws f c d F C =
+    let a = row-in frames (l .nc) f c F C in
+    let e = d .count in
+    let h : f * l .nc + c < length draws = omega arith in
+    record { inside = h; label = d .labels _ h }
+
+pub lead-drawn : (l : Layout) (frames : ℕ) (draws : List ℕ) (c k : ℕ) → Draws l frames draws → c < l .nc → k < 8 → Drawn l draws (frames * l .nc + (k * l .nc + c))
+lead-drawn l frames draws c k d C K =
+    let a = row-in 8 (l .nc) k c K C in
+    let e = d .count in
+    let h : frames * l .nc + (k * l .nc + c) < length draws = omega arith in
+    record { inside = h; label = d .labels _ h }
+
+-- ---- places of the rows and of the phasors
+module _ (l : Layout) (i : IsLayout l) where
+  pub starts-small : (frames c n : ℕ) → frames ≤ 4 → c ≤ l .nc → n ≡ rowLength l frames → c * n ≤ 23517
+  starts-small frames c n F C e = rw e (mul-le-mul (le-trans C (sized l i .nc-most)) (row-most l i frames F))
+
+  pub frames-small : (f : ℕ) → f ≤ 4 → f * l .nsym ≤ 1800
+  frames-small f F = mul-le-mul F (sized l i .nsym-most)
+
+  pub phasors-small : (c : ℕ) → c < l .nc → c * l .nsym ≤ 5850
+  phasors-small c C = rows-small l c (l .nsym) (sized l i) (le-of-lt C) (sized l i .nsym-most)
+
+  -- row c ends where the next one starts
+  pub row-room : (frames c : ℕ) → c < l .nc → c * rowLength l frames + rowLength l frames ≤ l .nc * rowLength l frames
+  row-room frames c C = let a : suc c * rowLength l frames ≤ l .nc * rowLength l frames = mul-le-mul-right (rowLength l frames) C in omega arith
+
+-- ---- bits
+-- the cells of a carrier before one of its cells
+pub before-cell : (l : Layout) (markers : List ℕ) (c s : ℕ) → Markers l markers → c < l .nc → s + 1 < l .nsym → marked l markers c (s + 1) ≡ false
+    → cellsBefore l markers c (suc s) < cells l
+unfolding cellsBefore cellsOf
+before-cell l markers c s M C S e =
+    let f : ℕ → Bool = λ i. not (marked l markers c i) in
+    let z : suc s - 1 ≡ s = omega arith in
+    let a = count-next f s in
+    let b = count-le f (s + 1) (l .nsym - 1) (omega arith) in
+    let d = cells-count l markers (M .sized) (M .values-ok) c C in
+    let u : one (f (s + 1)) ≡ 1 = ap (λ (b : Bool). one (not b)) e in
+    rw z (omega arith)
+
+-- a frame has the bits of its cells
+pub cell-in : (l : Layout) (f c before : ℕ) → Sized l → c < l .nc → before < cells l → f * l .n + (c * cells l + before) * l .bps + l .bps ≤ f * l .n + l .n
+cell-in l f c before z C B =
+    let a : suc (c * cells l + before) * l .bps ≤ l .nc * cells l * l .bps = mul-le-mul-right (l .bps) (row-in (l .nc) (cells l) c before C B) in
+    let e = z .n-is in
+    omega arith
+
+pub label-in : (l : Layout) (markers payload : List ℕ) (c s place : ℕ) → CellReady l markers payload c s place → marked l markers c s ≡ false
+    → labelAt payload place (l .bps) < 2 ^ l .bps
+label-in l markers payload c s place r e =
+    label-below payload place (l .bps) (λ i h. let a = r .inside e in let b = r .bits (place + i) (omega arith) in omega arith)
+
+-- the symbols of frame f of carrier c, where the loop stands before symbol s + 1
+module _ (l : Layout) (markers : List ℕ) (phasors : List Float) (payload draws : List ℕ) (c f at room : ℕ) (r : FrameReady l markers phasors payload draws c f at room) where
+  pub cell-ready : (s : ℕ) → s + 1 < l .nsym → CellReady l markers payload c (s + 1) (bitPlace l markers f c (suc s))
+  unfolding bitPlace cellNumber
+  cell-ready s S =
+      record {
+        markers-ok = r .markers-ok;
+        carrier = r .carrier;
+        symbol = S;
+        inside = λ e. le-trans (cell-in l f c _ (sized l (r .layout)) (r .carrier) (before-cell l markers c s (r .markers-ok) (r .carrier) S e)) (r .whole);
+        bits = r .bits;
+      }
+
+-- ---- the parts of an accepted call, whose rows keep their length
+module _ (l : Layout) (m : Sending) (room : ℕ) (r : Ready l m room) (len : ℕ) (e : len ≡ room) where
+  pub ready-still : Ready l m len
+  ready-still = rw e r
+
+  module _ (c : ℕ) (C : c < l .nc) where
+    pub lead-ready : LeadReady l (m .phasors) (m .frames) (m .draws) c len
+    lead-ready = record { layout = r .layout; phasors-ok = r .phasors-ok; frames-most = r .frames-most; draws-ok = r .draws-ok; carrier = C; room-is = e ∙ r .room-is }
+
+    pub frame-ready : (f at : ℕ) → f < m .frames → at ≡ c * rowLength l (m .frames) + 8 + f * l .nsym → FrameReady l (m .markers) (m .phasors) (m .payload) (m .draws) c f at len
+    unfolding rowLength
+    frame-ready f at F g =
+        let a : suc f * l .nsym ≤ m .frames * l .nsym = mul-le-mul-right (l .nsym) F in
+        let b : suc f * l .n ≤ m .frames * l .n = mul-le-mul-right (l .n) F in
+        let d = row-room l (r .layout) (m .frames) c C in
+        record {
+          layout = r .layout;
+          markers-ok = r .markers-ok;
+          phasors-ok = r .phasors-ok;
+          carrier = C;
+          frame = omega (arith, r .frames-most);
+          whole = let p = r .payload-ok .count in omega arith;
+          bits = r .payload-ok .bits;
+          reference = reference-drawn l (m .frames) (m .draws) f c (r .draws-ok) F C;
+          within = let h = r .room-is in omega arith;
+        }

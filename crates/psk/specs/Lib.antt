@@ -1,0 +1,13 @@
+pub mod Symbols
+pub mod Send
+pub mod Step
+pub mod Running
+pub mod Written
+pub mod Rows
+pub mod Accepted
+pub mod Numbers
+pub mod Turn
+pub mod SentStep
+pub mod Size
+pub mod RowSize
+pub mod Cases

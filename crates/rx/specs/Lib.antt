@@ -1,0 +1,14 @@
+pub mod Receiver
+pub mod View
+pub mod Conditions
+pub mod Near
+pub mod Sound
+pub mod Feed
+pub mod Open
+pub mod Local
+pub mod Numbers
+pub mod Once
+pub mod After
+pub mod Accept
+pub mod Ready
+pub mod Fed

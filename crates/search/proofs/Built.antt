@@ -1,0 +1,71 @@
+-- Tables that are built from an accepted layout: they fit the search, and what the search over them finds is what the tracks say. Assumes nothing.
+use Prim.Native.Nat.{ℕ, _+_, _-_, _*_, _≤_, _<_}
+use mathlib.Core.Path.{_≡_, ap}
+use mathlib.Core.List.{List}
+use native.Mathlib.Omega.{arith}
+use lib.ListN.{length, take, length-take}
+use lib.Ieee.{Float}
+use Rattle.level.specs.declared.Layout.{Layout}
+use Rattle.level.specs.Rows.{IsLayout}
+use Rattle.level.specs.Sized.{sized}
+use Rattle.track.specs.declared.Span.{Span}
+use Rattle.hold.specs.declared.Hold.{Hold}
+use Rattle.hold.specs.declared.Offered.{Offered}
+use Rattle.chi.specs.declared.Sum.{Sum}
+use Rattle.chi.specs.declared.Sum.the-variants.{Pilot, Data}
+use Rattle.chi.specs.Table.{perCarrier, Tabled, TableRoom}
+use Rattle.chi.specs.Cells.{kept}
+use Rattle.chi.specs.Dot.{DotFits}
+use Rattle.search.specs.Chi.{Tables, chiAt}
+use Rattle.search.specs.Search.{offersFrom}
+use Rattle.search.specs.Fits.{stepsIn, powersIn, offersIn, Searched, SearchFits}
+use Rattle.search.specs.Flat.{flatMetric, FlatFits, Built}
+use Rattle.search.specs.FlatChi.{chi-fits, chi-is}
+use Rattle.search.specs.Offers.{offers-ext}
+
+module _ (l : Layout) (t : Tables) (memory : List Float) (step power : Span) (lo n : ℕ) (h : Hold) (f : SearchFits l t (length memory) step power lo n h)
+    (marks : List ℕ) (markRefs : List Float) (cells : List ℕ) (cellRefs : List Float)
+    (a : Tabled Pilot l (t .markers) (t .phasors) marks markRefs) (b : Tabled Data l (t .markers) (t .phasors) cells cellRefs) where
+  built : Built l t marks markRefs cells cellRefs
+  built = record { layout = f .layout; markers-ok = f .markers-ok; marks-tabled = a; cells-tabled = b }
+
+  fits-at : (i : ℕ) → i < n → DotFits (length memory) marks (length markRefs) (lo + 2 * i - step .base .0) × DotFits (length memory) cells (length cellRefs) (lo + 2 * i - step .base .0)
+  fits-at i I =
+      chi-fits l t marks markRefs cells cellRefs built step power (f .one-base) (lo + 2 * i) (f .step-fits .within i I) (f .power-fits .within i I) (length memory) (f .room-is)
+      (f .step-fits .len-most) (f .power-fits .len-most)
+
+  pub built-fits : FlatFits (length memory) marks (length markRefs) cells (length cellRefs) (step .base .0) lo n h
+  built-fits =
+      record {
+        begun = λ i I. f .step-fits .within i I .begun;
+        marks-fit = λ i I. fits-at i I .0;
+        cells-fit = λ i I. fits-at i I .1;
+        small = f .small;
+        hold-fits = f .hold-fits;
+      }
+
+  -- chi over the tables, at a position
+  abbrev flat : ℕ → Float
+  flat = flatMetric memory marks markRefs cells cellRefs (step .base .0)
+
+  pub built-searched : (r : Offered) → Searched h (offersFrom flat lo n) r → Searched h (offersIn l t memory step power lo n) r
+  built-searched r s =
+      let e : offersIn l t memory step power lo n ≡ offersFrom flat lo n =
+      offers-ext (chiAt l t (stepsIn l memory step) (powersIn l memory power)) flat lo n
+      (λ i I.
+      chi-is l t marks markRefs cells cellRefs built step power (f .one-base) (lo + 2 * i) (f .step-fits .within i I) (f .power-fits .within i I) memory) in
+      rw e s
+
+-- room for the tables
+pub marks-most : (l : Layout) {k : ℕ} → k ≡ perCarrier Pilot l → IsLayout l → l .nc * k ≤ 40
+marks-most l e i = rw e (sized l i .marks-most)
+
+pub cells-most : (l : Layout) {k : ℕ} → k ≡ perCarrier Data l → IsLayout l → l .nc * k ≤ 1500
+cells-most l e i = rw e (kept l i .all)
+
+-- the fronts of two arrays that are long enough
+pub front-room : (sum : Sum) (l : Layout) (k : ℕ) (offs : List ℕ) (refs : List Float) → k ≡ perCarrier sum l → l .nc * k ≤ length offs → 2 * (l .nc * k) ≤ length refs
+    → TableRoom sum l (length (take (l .nc * k - 0) offs)) (length (take (2 * (l .nc * k) - 0) refs))
+front-room sum l k offs refs e a b =
+    let n : l .nc * k ≡ l .nc * perCarrier sum l = ap (λ (j : ℕ). l .nc * j) e in
+    record { offs-is = simp length-take (omega arith); refs-is = simp length-take (omega arith) }

@@ -1,0 +1,7 @@
+pub mod Chi
+pub mod Search
+pub mod Fits
+pub mod Flat
+pub mod TableSum
+pub mod FlatChi
+pub mod Offers

@@ -1,0 +1,140 @@
+-- Offers one after the other, as a search makes them, and what leaves them as they are. Assumes nothing.
+use Prim.Native.Nat.{ℕ, _+_, _-_, _*_, _/_, _^_, _≤_, _<_}
+use mathlib.Core.Path.{_≡_, refl, sym, ap, ap₂, _∙_}
+use mathlib.Core.Bool.{Bool, true, false, _&&_, cond}
+use mathlib.Core.List.{List, [], _∷_, _++_, append-nil}
+use native.Mathlib.Numerals.{add-one}
+use native.Mathlib.Omega.{arith}
+use lib.ListN.{length, getD}
+use lib.Ieee.{Float}
+use Rattle.complex.specs.declared.Complex.{Complex}
+use Rattle.complex.specs.Arithmetic.{cmul}
+use Rattle.complex.specs.Sums.{sum-ext}
+use Rattle.complex.specs.Lists.{tabulate, tabulate-ext}
+use Rattle.refusal.specs.declared.Position.{Position}
+use Rattle.level.specs.declared.Layout.{Layout}
+use Rattle.level.specs.Rows.{IsLayout}
+use Rattle.dat.specs.Cells.{Cell, cellAt, referenceOf, cellReferenceOf}
+use Rattle.dat.specs.Accepted.{Markers}
+use Rattle.chi.specs.declared.Sum.the-variants.{Pilot, Data}
+use Rattle.chi.specs.Table.{cellsIn}
+use Rattle.chi.specs.Cells.{cells-in-frame}
+use Rattle.hold.specs.declared.Hold.{Hold}
+use Rattle.hold.specs.declared.Held.{Held}
+use Rattle.hold.specs.declared.Held.the-variants.{Empty, At}
+use Rattle.hold.specs.declared.Block.{Block}
+use Rattle.hold.specs.declared.Candidate.{Candidate}
+use Rattle.hold.specs.declared.Candidate.the-variants.{NoCandidate, Metric}
+use Rattle.hold.specs.declared.Release.{Release}
+use Rattle.hold.specs.declared.Release.the-variants.{NoRelease, Released}
+use Rattle.hold.specs.declared.Offered.{Offered}
+use Rattle.hold.specs.Offer.{atLeast, greater, due, taken, keeping, releasing, offeredAt, offered, Room}
+use Rattle.hold.specs.History.{Offer, Detection}
+use Rattle.hold.specs.Releases.{offeredIn, released, holdAfter, releases, holdAfter-append, releases-append}
+use Rattle.search.specs.Chi.{Tables, allMarks, allKept, cellPosition, cellSum, pilotSum, dataSum, chiOf, chiAt}
+use Rattle.search.specs.Search.{reach, searchCount, offerOf, offersFrom}
+use Rattle.search.specs.Fits.{latest, offeredNext, lastReleased, Searched, HeldBelow, HoldFits}
+
+-- ---- one offer more
+pub offers-next : (chi : ℕ → Float) (lo i : ℕ) → offersFrom chi lo (i + 1) ≡ offersFrom chi lo i ++ (offerOf (lo + 2 * i) (chi (lo + 2 * i)) ∷ [])
+unfolding offersFrom tabulate
+offers-next chi lo i = rw add-one refl
+
+-- the last release, when an offer more has released r
+last-next : (ds : List Detection) (r : Release) → lastReleased (ds ++ released r []) ≡ latest (lastReleased ds) r
+unfolding lastReleased released
+last-next ds NoRelease = ap lastReleased (append-nil ds)
+last-next [] (Released b m) = refl
+last-next (d ∷ []) (Released b m) = refl
+last-next (d ∷ e ∷ ds) (Released b m) = last-next (e ∷ ds) (Released b m)
+
+pub searched-none : (h : Hold) (chi : ℕ → Float) (lo : ℕ) → Searched h (offersFrom chi lo 0) (record { next = h; release = NoRelease })
+unfolding offersFrom tabulate holdAfter releases lastReleased
+searched-none h chi lo = record { next = refl; release = refl }
+
+pub searched-next : (h : Hold) (os : List Offer) (o : Offer) (s : Offered) → Searched h os s → Searched h (os ++ (o ∷ [])) (offeredNext s o)
+unfolding holdAfter releases offeredNext
+searched-next h os o s w =
+    record {
+      next = ap (λ (k : Hold). offeredIn k o .next) (w .next) ∙ sym (holdAfter-append h os (o ∷ []));
+      release = ap₂ (λ (a : Release) (k : Hold). latest a (offeredIn k o .release)) (w .release) (w .next)
+          ∙ sym (ap lastReleased (releases-append h os (o ∷ [])) ∙ last-next (releases h os) (offeredIn (holdAfter h os) o .release));
+    }
+
+-- ---- the hold's blocks stay small
+pub hold-room : (h : Hold) → HoldFits h → Room (h .best) (h .dead)
+hold-room h f = go (h .best) (f .held-small)
+  where
+    go : (b : Held) → HeldBelow b → Room b (h .dead)
+    go Empty u = tt
+    go (At b m) u = omega (arith, f .dead-small)
+
+either : (b : Bool) (x y : Held) → HeldBelow x → HeldBelow y → HeldBelow (cond b x y)
+either true x y u v = u
+either false x y u v = v
+
+taken-below : (block : Block) (best : Held) (p : Position) (c : Candidate) → p .0 < 2 ^ 50 → HeldBelow best → HeldBelow (taken block best p c)
+unfolding taken
+taken-below block best p NoCandidate h u = u
+taken-below block best p (Metric m) h u = either (atLeast p block && greater m best) (At p m) best h u
+
+module _ (h : Hold) (p : Position) (c : Candidate) (P : p .0 < 2 ^ 50) (f : HoldFits h) where
+  keeping-fits : HoldFits (keeping h p c .next)
+  unfolding keeping
+  keeping-fits = record { dead-small = f .dead-small; held-small = taken-below (h .block) (h .best) p c P (f .held-small) }
+
+  due-fits : (b : Position) (m : Float) (d : Bool) → HoldFits (cond d (releasing h b m) (keeping h p c) .next)
+  unfolding releasing
+  due-fits b m true = record { dead-small = f .dead-small; held-small = tt }
+  due-fits b m false = keeping-fits
+
+  held-fits : (b : Held) → HoldFits (offeredAt b h p c .next)
+  unfolding offeredAt
+  held-fits Empty = keeping-fits
+  held-fits (At b m) = due-fits b m (due (h .hold) b p)
+
+  pub hold-next : HoldFits (offered h p c .next)
+  unfolding offered
+  hold-next = held-fits (h .best)
+
+-- ---- what a search reads
+-- metrics that agree at the positions that are searched
+pub offers-ext : (f g : ℕ → Float) (lo n : ℕ) → ((i : ℕ) → i < n → f (lo + 2 * i) ≡ g (lo + 2 * i)) → offersFrom f lo n ≡ offersFrom g lo n
+unfolding offersFrom
+offers-ext f g lo n h =
+    tabulate-ext (λ i. offerOf (lo + 2 * i) (f (lo + 2 * i))) (λ i. offerOf (lo + 2 * i) (g (lo + 2 * i))) n (λ i I. ap (offerOf (lo + 2 * i)) (h i I))
+
+-- every position of a search has its cells before the end
+pub search-inside : (l : Layout) (p e i : ℕ) → i < searchCount l p e → p + 2 * i + reach l < e
+search-inside l p e i h = inside (reach l) h
+  where
+    inside : (r : ℕ) → i < (e - r - p + 1) / 2 → p + 2 * i + r < e
+    inside r h = omega arith
+
+cells-ext : (l : Layout) (xs : List Cell) (row row′ ref : ℕ → ℕ → Complex) (p : ℕ)
+    → ((k m : ℕ) → k < length xs → row (getD xs k (cellAt 0 0) .carrier) m ≡ row′ (getD xs k (cellAt 0 0) .carrier) m)
+    → cellSum l xs row ref p ≡ cellSum l xs row′ ref p
+unfolding cellSum
+cells-ext l xs row row′ ref p h =
+    sum-ext _ (λ k. let x = getD xs k (cellAt 0 0) in cmul (row′ (x .carrier) (cellPosition l p x)) (ref (x .carrier) (x .symbol))) (length xs)
+    (λ k K. let x = getD xs k (cellAt 0 0) in ap (λ (z : Complex). cmul z (ref (x .carrier) (x .symbol))) (h k (cellPosition l p x) K))
+
+-- rows that agree on the layout's carriers
+module _ (l : Layout) (t : Tables) (i : IsLayout l) (m : Markers l (t .markers)) (step step′ power power′ : ℕ → ℕ → Complex)
+    (u : (c n : ℕ) → c < l .nc → step c n ≡ step′ c n) (v : (c n : ℕ) → c < l .nc → power c n ≡ power′ c n) where
+  pub chi-ext : (p : ℕ) → chiAt l t step power p ≡ chiAt l t step′ power′ p
+  unfolding chiAt pilotSum dataSum allMarks allKept cellsIn
+  chi-ext p =
+      ap₂ (chiOf l t)
+      (cells-ext l (allMarks l t) step step′ (referenceOf l (t .phasors)) p (λ k n K. u _ n (cells-in-frame l (t .markers) i m Pilot k K .carrier)))
+      (cells-ext l (allKept l t) power power′ (cellReferenceOf l (t .phasors)) p (λ k n K. v _ n (cells-in-frame l (t .markers) i m Data k K .carrier)))
+
+  pub offers-rows : (lo n : ℕ) → offersFrom (chiAt l t step power) lo n ≡ offersFrom (chiAt l t step′ power′) lo n
+  offers-rows lo n = offers-ext (chiAt l t step power) (chiAt l t step′ power′) lo n (λ i I. chi-ext (lo + 2 * i))
+
+-- ---- where a search releases at most once, its answer is the whole list
+pub lone-released : (ds : List Detection) → length ds ≤ 1 → released (lastReleased ds) [] ≡ ds
+unfolding lastReleased released
+lone-released [] h = refl
+lone-released (d ∷ []) h = refl
+lone-released (d ∷ e ∷ ds) h = absurd (omega arith)

@@ -1,0 +1,7 @@
+pub mod Window
+pub mod Track
+pub mod Memory
+pub mod Kept
+pub mod Append
+pub mod Trims
+pub mod Values

@@ -1,0 +1,96 @@
+-- What `holdtrial` prints for a text (01, "Beside the chain"). Definitions only.
+use mathlib.Core.Bool.{Bool, false, cond, _&&_}
+use mathlib.Core.List.{List, [], _∷_, _++_, map, flatMap}
+use mathlib.Core.Option.{Option, none, some, Option·map, bind}
+use Prim.Native.Nat.{ℕ, _*_, _^_}
+use lib.Dec.{leb, ltb, eqb}
+use lib.ListN.{length}
+use lib.IntN.{pos}
+use lib.Ieee.{Float, binary64, ofInt, toUnsigned}
+use Rattle.hold.specs.declared.Candidate.{Candidate}
+use Rattle.hold.specs.declared.Candidate.the-variants.{NoCandidate, Metric}
+use Rattle.hold.specs.Offer.{freshHold}
+use Rattle.hold.specs.History.{Offer, Detection}
+use Rattle.hold.specs.Releases.{releases}
+use Rattle.trial.specs.Words.{words}
+use Rattle.trial.specs.Numbers.{allDigits, valueAfter, decimal}
+
+-- a word of the input: a whole number of at most 2^48, "-", or anything else
+pub data Token : Type 0 where
+  number : ℕ → Token
+  dash : Token
+  other : Token
+
+unfoldable pub isDash : List ℕ → Bool
+isDash [] = false
+isDash (b ∷ []) = eqb b 45
+isDash (b ∷ c ∷ w) = false
+
+-- "a number above 2^48" is none of the form
+unfoldable pub limited : ℕ → Token
+limited n = cond (leb n (2 ^ 48)) (number n) other
+
+unfoldable pub token : List ℕ → Token
+token w = cond (isDash w) dash (cond (allDigits w) (limited (valueAfter 0 w)) other)
+
+unfoldable pub numberIn : Token → Option ℕ
+numberIn (number n) = some n
+numberIn dash = none
+numberIn other = none
+
+-- a whole number as a metric; those up to 2^53 are f64 exactly
+abbrev pub wholeMetric : ℕ → Float
+wholeMetric n = ofInt binary64 (pos n)
+
+-- "metric or "-""
+unfoldable pub candidateIn : Token → Option Candidate
+candidateIn (number n) = some (Metric (wholeMetric n))
+candidateIn dash = some NoCandidate
+candidateIn other = none
+
+-- "offers, each position and metric or "-""
+unfoldable pub offersIn : List Token → Option (List Offer)
+offersIn [] = some []
+offersIn (p ∷ []) = none
+offersIn (p ∷ m ∷ ts) =
+    bind (numberIn p) (λ p. bind (candidateIn m) (λ c. Option·map (λ os. record { position = record { 0 = p }; candidate = c } ∷ os) (offersIn ts)))
+
+pub record Trial : Type 0 where
+  pub hold : ℕ
+  pub dead : ℕ
+  pub offers : List Offer
+
+-- "a 2, hold, dead; then a count of offers", at most 1,000, and that many offers
+unfoldable pub trialOf : List Token → Option Trial
+trialOf [] = none
+trialOf (two ∷ []) = none
+trialOf (two ∷ hold ∷ []) = none
+trialOf (two ∷ hold ∷ dead ∷ []) = none
+trialOf (two ∷ hold ∷ dead ∷ count ∷ ts) =
+    bind (numberIn two) (λ two. cond (eqb two 2) (
+    bind (numberIn hold) (λ hold. bind (numberIn dead) (λ dead. bind (numberIn count) (λ count.
+    cond (leb count 1000 && eqb (length ts) (2 * count)) (
+    Option·map (λ os. record { hold = hold; dead = dead; offers = os }) (offersIn ts)
+    ) none)))
+    ) none)
+
+-- "position and metric of each", on a line
+unfoldable pub line : Detection → List ℕ
+line d = decimal (d .position .0) ++ (32 ∷ decimal (toUnsigned 64 (d .metric)) ++ (10 ∷ []))
+
+-- "It prints the count of releases, then position and metric of each."
+unfoldable pub report : List Detection → List ℕ
+report ds = decimal (length ds) ++ (10 ∷ flatMap line ds)
+
+-- "bad", on a line
+unfoldable pub bad : List ℕ
+bad = 98 ∷ 97 ∷ 100 ∷ 10 ∷ []
+
+-- "Any other form .. prints `bad`."
+unfoldable pub answer : Option Trial → List ℕ
+answer none = bad
+answer (some t) = report (releases (freshHold (t .hold) (t .dead)) (t .offers))
+
+-- a text above 65,536 bytes is read as none of the form
+unfoldable pub printed : List ℕ → List ℕ
+printed text = cond (ltb 65536 (length text)) bad (answer (trialOf (map token (words text))))
