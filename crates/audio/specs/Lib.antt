@@ -2,6 +2,5 @@ pub mod Sums
 pub mod Scatter
 pub mod Audio
 pub mod CarrierAudio
-pub mod Reach
-pub mod AudioLaws
-pub mod Accepted
+pub mod Windows
+pub mod Parts

@@ -4,3 +4,4 @@ pub mod PhaseLaws
 pub mod WindowCall
 pub mod Nco
 pub mod Accepted
+pub mod PhaseRange

@@ -24,9 +24,13 @@ wrongBuffers l window phases out = not (eqb (length phases) (l .nc)) || not (eqb
 unfoldable pub wideWindow : ℕ → Bool
 wideWindow window = ltb 4096 window
 
+-- +0 in f32
+abbrev pub zero32 : Float
+zero32 = ofBits binary32 0
+
 -- 14: "phase outside 0 to f32 TAU"
 unfoldable pub wrongPhases : Layout → List Float → Bool
-wrongPhases l phases = any (λ c. not (inRange (ofBits binary32 0) tau (getD phases c nan))) (l .nc)
+wrongPhases l phases = any (λ c. not (inRange zero32 tau (getD phases c nan))) (l .nc)
 
 -- rows 11, 13 and 14 of "Where each fault is met"
 unfoldable pub ncoFault : Layout → ℕ → List Float → List Float → Fault

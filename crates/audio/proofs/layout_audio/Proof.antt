@@ -6,7 +6,7 @@ use Rattle.refusal.specs.declared.Fault.{Fault}
 use Rattle.refusal.specs.Outcome.{answered, judged}
 use Rattle.nco.specs.WindowCall.{call-refused, call-done}
 use Rattle.audio.specs.Audio.{audioWindow, lentWave}
-use Rattle.audio.specs.Accepted.{sound-of}
+use Rattle.audio.proofs.Accepted.{sound-of}
 use Rattle.audio.proofs.layout_audio.Statement.{statement}
 use Rattle.audio.proofs.layout_audio.Tie as tie
 

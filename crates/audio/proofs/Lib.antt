@@ -1,0 +1,6 @@
+-- Laws that several proofs cite.
+mod Reach
+mod Values
+mod Carriers
+mod Sizes
+mod Accepted
