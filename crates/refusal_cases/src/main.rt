@@ -14,7 +14,9 @@ use nco::Answer;
 use psk::Sent;
 use refusal::Place;
 use refusal::Position;
+use rx::FeedAnswer;
 use rx::OpenAnswer;
+use rx::State;
 
 fn show(n: u32) {
     let out = [48 + (n / 10 % 10) as u8, 48 + (n % 10) as u8, 10];
@@ -224,6 +226,77 @@ fn audios() {
     try_audio(&symbols, 0, 16, &waves, &mut phases, &mut out);
 }
 
+// Feeds by the tables of `sending`; the state that the feed leaves.
+fn try_feed(s: State, memory: &mut [f64], book: &[f64], number: u64, samples: &[f64]) -> State {
+    let markers = MARKERS;
+    let phasors = [0.7071067811865476; 1572];
+    let r = rx::feed(
+        500,
+        4,
+        &markers,
+        &phasors,
+        book,
+        s,
+        memory,
+        Position(number),
+        samples,
+    );
+    let answer = r.answer;
+    match answer {
+        FeedAnswer::Accepted(_) => show(0),
+        FeedAnswer::Refused(f) => show(refusal::number(f)),
+    }
+    r.state
+}
+
+// Memory too short, a turn book one short, 4,001 samples, half a sample, a number past the end, parts that are no number or above 2^20; then 4,000 samples, the same again, and one more.
+fn feeding(opened: State) {
+    let book = [1.0; 6000];
+    let mut few = [0.0; 4];
+    let mut memory = [0.0; 522816];
+    let mut samples = [0.5; 8002];
+    let mut s = try_feed(opened, &mut few, &book, 0, &samples[..2]);
+    s = try_feed(s, &mut memory, &book[..5999], 0, &samples[..2]);
+    s = try_feed(s, &mut memory, &book, 0, &samples);
+    s = try_feed(s, &mut memory, &book, 0, &samples[..3]);
+    s = try_feed(s, &mut memory, &book, 1, &samples[..2]);
+    samples[0] = 0.0 / 0.0;
+    s = try_feed(s, &mut memory, &book, 0, &samples[..2]);
+    samples[0] = 1048577.0;
+    s = try_feed(s, &mut memory, &book, 0, &samples[..2]);
+    samples[0] = 1048576.0;
+    s = try_feed(s, &mut memory, &book, 0, &samples[..8000]);
+    s = try_feed(s, &mut memory, &book, 0, &samples[..8000]);
+    try_feed(s, &mut memory, &book, 4000, &samples[..2]);
+}
+
+// An opening, and feeds; then a start of 2^40 and one more, a turn book one short and with a part of 1.5.
+fn receiving() {
+    let markers = MARKERS;
+    let phasors = [0.7071067811865476; 1572];
+    let mut book = [1.0; 6000];
+    let r = rx::open(500, 4, &markers, &phasors, Position(0), &book);
+    match r {
+        OpenAnswer::Opened(s) => feeding(s),
+        OpenAnswer::Refused(f) => show(refusal::number(f)),
+    }
+    try_start(1099511627777, &book);
+    try_start(1099511627776, &book);
+    try_start(0, &book[..5999]);
+    book[5999] = 1.5;
+    try_start(0, &book);
+}
+
+fn try_start(start: u64, book: &[f64]) {
+    let markers = MARKERS;
+    let phasors = [0.7071067811865476; 1572];
+    let r = rx::open(500, 4, &markers, &phasors, Position(start), book);
+    match r {
+        OpenAnswer::Opened(_) => show(0),
+        OpenAnswer::Refused(f) => show(refusal::number(f)),
+    }
+}
+
 fn main() {
     layouts();
     payloads();
@@ -231,5 +304,6 @@ fn main() {
     sending();
     phases();
     audios();
+    receiving();
     offers();
 }
