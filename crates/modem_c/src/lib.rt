@@ -1,0 +1,283 @@
+// The open calls for C (include/dimpstea.h): each answers 0, or the number of the first condition met.
+ghost use mathlib.Core.Path.{_≡_};
+ghost use lib.ListN.{length};
+ghost use Rattle.level.specs.Layout.{chosen};
+ghost use Rattle.psk.specs.Symbols.{sending};
+ghost use Rattle.rx.specs.Feed.{given};
+ghost use Rattle.modem_c.specs.Calls.{sentCode, windowCode, bitsCode, candidateOf, lentRelease, lentState, LayoutCall, ModulateCall, NcoPhaseCall, CarrierAudioCall, PayloadBitsCall, MeterCall, OpenCall, FeedCall, OfferCall};
+
+mod numbers;
+
+use hold::Candidate;
+use hold::LoneAnswer;
+use level::Chosen;
+use meter::Metered;
+use nco::Answer;
+use psk::Sent;
+use refusal::Place;
+use refusal::Position;
+use refusal::Refusal;
+use rx::FeedAnswer;
+use rx::OpenAnswer;
+
+fn sent_code(a: Sent) -> u32
+    ensures { λ r. ⌜ r ≡ sentCode a ⌝ }
+{
+    match a {
+        Sent::Done => 0,
+        Sent::Refused(r) => refusal::number(r),
+    }
+}
+
+fn window_code(a: Answer) -> u32
+    ensures { λ r. ⌜ r ≡ windowCode a ⌝ }
+{
+    match a {
+        Answer::Done => 0,
+        Answer::Refused(r) => refusal::number(r),
+    }
+}
+
+fn bits_code(a: meter::Answer) -> u32
+    ensures { λ r. ⌜ r ≡ bitsCode a ⌝ }
+{
+    match a {
+        meter::Answer::Done => 0,
+        meter::Answer::Refused(r) => refusal::number(r),
+    }
+}
+
+#[no_mangle]
+pub extern "C" fn dimpstea_layout(bandwidth: u32, rec: u32, numbers: &mut [u64]) -> u32
+    ensures { λ r. ⌜ LayoutCall bandwidth rec (now (numbers .entry)) r (now (numbers .exit)) ⌝ }
+{
+    let chosen = level::choose(bandwidth, rec);
+    match chosen {
+        Chosen::Refused(r) => refusal::number(r),
+        Chosen::Psk(l) => {
+            if numbers.len() != 13 {
+                return refusal::number(Refusal::Buffer);
+            }
+            let all = numbers::layout_numbers(l);
+            numbers::copy(numbers, &all);
+            0
+        }
+    }
+}
+
+#[no_mangle]
+pub extern "C" fn dimpstea_modulate(
+    bandwidth: u32,
+    rec: u32,
+    markers: &[u16],
+    phasors: &[f64],
+    frames: u32,
+    payload: &[u8],
+    draws: &[u8],
+    rows: &mut [f64],
+) -> u32
+    ensures { λ r. ⌜ ModulateCall bandwidth rec (sending (now (markers .entry)) (now (phasors .entry)) frames (now (payload .entry)) (now (draws .entry))) (now (rows .entry)) r (now (rows .exit)) ⌝ }
+{
+    sent_code(psk::modulate(
+        bandwidth,
+        rec,
+        markers,
+        phasors,
+        frames,
+        payload,
+        draws,
+        rows,
+    ))
+}
+
+#[no_mangle]
+pub extern "C" fn dimpstea_nco_phase(
+    bandwidth: u32,
+    rec: u32,
+    window: usize,
+    phases: &mut [f32],
+    out: &mut [f32],
+) -> u32
+    ensures { λ r. ⌜ NcoPhaseCall bandwidth rec window (now (phases .entry)) (now (out .entry)) r (now (phases .exit)) (now (out .exit)) ⌝ }
+{
+    window_code(nco::nco_phase(bandwidth, rec, window, phases, out))
+}
+
+#[no_mangle]
+pub extern "C" fn dimpstea_carrier_audio(
+    bandwidth: u32,
+    rec: u32,
+    frames: u32,
+    symbols: &[f64],
+    place: u64,
+    window: usize,
+    waves: &[f64],
+    phases: &mut [f32],
+    out: &mut [f64],
+) -> u32
+    ensures { λ r. ⌜ CarrierAudioCall bandwidth rec frames (now (symbols .entry)) place window (now (waves .entry)) (now (phases .entry)) (now (out .entry)) r (now (phases .exit)) (now (out .exit)) ⌝ }
+{
+    let at = Place(place);
+    window_code(audio::carrier_audio(
+        bandwidth,
+        rec,
+        frames,
+        symbols,
+        at,
+        window,
+        waves,
+        phases,
+        out,
+    ))
+}
+
+// The state's length is met after the tables (1 to 7) and before start and turn book (15 and 16).
+#[no_mangle]
+pub extern "C" fn dimpstea_open(
+    bandwidth: u32,
+    rec: u32,
+    markers: &[u16],
+    phasors: &[f64],
+    start: u64,
+    book: &[f64],
+    state: &mut [u64],
+    metric: &mut f64,
+) -> u32
+    ensures { λ r. ⌜ OpenCall bandwidth rec (now (markers .entry)) (now (phasors .entry)) start (now (book .entry)) (now (state .entry)) (now (metric .entry)) r (now (state .exit)) (now (metric .exit)) ⌝ }
+{
+    let opened = rx::open(bandwidth, rec, markers, phasors, Position(start), book);
+    match opened {
+        OpenAnswer::Refused(r) => {
+            let n = refusal::number(r);
+            if n < 11 {
+                return n;
+            }
+            if state.len() != 19 {
+                return refusal::number(Refusal::Buffer);
+            }
+            n
+        }
+        OpenAnswer::Opened(s) => {
+            if state.len() != 19 {
+                return refusal::number(Refusal::Buffer);
+            }
+            numbers::write_state(state, metric, s);
+            0
+        }
+    }
+}
+
+#[no_mangle]
+pub extern "C" fn dimpstea_feed(
+    bandwidth: u32,
+    rec: u32,
+    markers: &[u16],
+    phasors: &[f64],
+    book: &[f64],
+    state: &mut [u64],
+    metric: &mut f64,
+    memory: &mut [f64],
+    number: u64,
+    samples: &[f64],
+    released: &mut u64,
+    release_position: &mut u64,
+    release_metric: &mut f64,
+) -> u32
+    ensures { λ r. ⌜ FeedCall (given bandwidth rec (now (markers .entry)) (now (phasors .entry)) (now (book .entry)) number (now (samples .entry))) (lentState (now (state .entry)) (now (metric .entry))) (now (memory .entry)) (lentRelease (now (released .entry)) (now («release_position» .entry)) (now («release_metric» .entry))) r (lentState (now (state .exit)) (now (metric .exit))) (now (memory .exit)) (lentRelease (now (released .exit)) (now («release_position» .exit)) (now («release_metric» .exit))) ⌝ }
+{
+    let s = numbers::state_of(state, *metric);
+    let first = Position(number);
+    let fed = rx::feed(
+        bandwidth,
+        rec,
+        markers,
+        phasors,
+        book,
+        s,
+        memory,
+        first,
+        samples,
+    );
+    let answer = fed.answer;
+    match answer {
+        FeedAnswer::Refused(r) => refusal::number(r),
+        FeedAnswer::Accepted(release) => {
+            let next = fed.state;
+            numbers::write_state(state, metric, next);
+            numbers::write_release(release, released, release_position, release_metric);
+            0
+        }
+    }
+}
+
+fn candidate_of(has_metric: u64, metric: f64) -> Candidate
+    ensures { λ r. ⌜ r ≡ candidateOf «has_metric» metric ⌝ }
+{
+    if has_metric == 0 {
+        return Candidate::NoCandidate;
+    }
+    Candidate::Metric(metric)
+}
+
+#[no_mangle]
+pub extern "C" fn dimpstea_offer(
+    hold: &mut [u64],
+    held_metric: &mut f64,
+    position: u64,
+    has_metric: u64,
+    metric: f64,
+    released: &mut u64,
+    release_position: &mut u64,
+    release_metric: &mut f64,
+) -> u32
+    ensures { λ r. ⌜ OfferCall (lentState (now (hold .entry)) (now («held_metric» .entry))) position «has_metric» metric (lentRelease (now (released .entry)) (now («release_position» .entry)) (now («release_metric» .entry))) r (lentState (now (hold .exit)) (now («held_metric» .exit))) (lentRelease (now (released .exit)) (now («release_position» .exit)) (now («release_metric» .exit))) ⌝ }
+{
+    if hold.len() != 6 {
+        return refusal::number(Refusal::Offer);
+    }
+    let h = numbers::hold_at(hold, 0, *held_metric);
+    let candidate = candidate_of(has_metric, metric);
+    let offered = hold::lone_offer(h, Position(position), candidate);
+    let answer = offered.answer;
+    match answer {
+        LoneAnswer::Refused(r) => refusal::number(r),
+        LoneAnswer::Answered(release) => {
+            let next = offered.next;
+            numbers::write_hold(hold, held_metric, next);
+            numbers::write_release(release, released, release_position, release_metric);
+            0
+        }
+    }
+}
+
+#[no_mangle]
+pub extern "C" fn dimpstea_payload_bits(
+    bandwidth: u32,
+    rec: u32,
+    soft: &[f64],
+    out: &mut [u8],
+) -> u32
+    ensures { λ r. ⌜ PayloadBitsCall bandwidth rec (now (soft .entry)) (now (out .entry)) r (now (out .exit)) ⌝ }
+{
+    bits_code(meter::payload_bits(bandwidth, rec, soft, out))
+}
+
+#[no_mangle]
+pub extern "C" fn dimpstea_meter(
+    bandwidth: u32,
+    rec: u32,
+    sent: &[u8],
+    read: &[u8],
+    differing: &mut u64,
+) -> u32
+    ensures { λ r. ⌜ MeterCall bandwidth rec (now (sent .entry)) (now (read .entry)) (now (differing .entry)) r (now (differing .exit)) ⌝ }
+{
+    let metered = meter::meter(bandwidth, rec, sent, read);
+    match metered {
+        Metered::Refused(r) => refusal::number(r),
+        Metered::Differing(d) => {
+            *differing = d as u64;
+            0
+        }
+    }
+}
