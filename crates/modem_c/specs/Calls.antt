@@ -1,5 +1,5 @@
 -- What each call for C answers, and what the numbers and buffers that it was lent hold afterwards. Definitions only.
-use Prim.Native.Nat.{ℕ, _^_}
+use Prim.Native.Nat.{ℕ}
 use mathlib.Core.Path.{_≡_}
 use mathlib.Core.Bool.{Bool, true, false, not, cond}
 use mathlib.Core.List.{List, [], _∷_}
@@ -31,8 +31,8 @@ use Rattle.hold.specs.declared.Candidate.the-variants.{NoCandidate, Metric}
 use Rattle.hold.specs.declared.Release.{Release}
 use Rattle.hold.specs.declared.Release.the-variants.{NoRelease, Released}
 use Rattle.hold.specs.declared.LoneAnswer.{LoneAnswer}
-use Rattle.hold.specs.declared.LoneAnswer.the-variants as lone
-use Rattle.hold.specs.LoneOffer.{LoneOffers}
+use Rattle.hold.specs.declared.LoneAnswer.the-variants.{Refused}
+use Rattle.hold.specs.LoneOffer.{outcome, LoneOffers}
 use Rattle.rx.specs.declared.State.{State}
 use Rattle.rx.specs.declared.FeedAnswer.{FeedAnswer}
 use Rattle.rx.specs.declared.FeedAnswer.the-variants as feed
@@ -46,6 +46,7 @@ abbrev pub codeOf : {A : Type 0} → Outcome A → ℕ
 codeOf (refused k) = k
 codeOf (answered a) = 0
 
+-- the same of a sender's answer, of a window's and of a reader's
 abbrev pub sentCode : Sent → ℕ
 sentCode sent.Done = 0
 sentCode (sent.Refused r) = numberOf r
@@ -62,22 +63,27 @@ pub record HandsOn {A : Type 0} (number : A → ℕ) (Contract : A → Type 0) (
   pub meets : Contract answer
   pub code-is : code ≡ number answer
 
--- ---- the sender's calls
+-- ---- calls that hand on another
+-- sending symbols: `psk::modulate`
 abbrev pub ModulateCall : ℕ → ℕ → Sending → List Float → ℕ → List Float → Type 0
 ModulateCall hz rec m rows code rows′ = HandsOn sentCode (λ a. Modulated hz rec m rows rows′ a) code
 
+-- the carriers' phases: `nco::nco_phase`
 abbrev pub NcoPhaseCall : ℕ → ℕ → ℕ → List Float → List Float → ℕ → List Float → List Float → Type 0
 NcoPhaseCall hz rec window phases out code phases′ out′ =
     HandsOn windowCode (λ a. NcoPhase (chosen hz rec) window phases out a phases′ out′) code
 
+-- the window's samples: `audio::carrier_audio`
 abbrev pub CarrierAudioCall : ℕ → ℕ → ℕ → List Float → ℕ → ℕ → List Float → List Float → List Float → ℕ → List Float → List Float → Type 0
 CarrierAudioCall hz rec frames symbols place window waves phases out code phases′ out′ =
     HandsOn windowCode (λ a. CarrierAudio (chosen hz rec) frames symbols place window waves phases out a phases′ out′) code
 
--- ---- the payload's
+-- the payload bits of soft bits: `meter::payload_bits`
 abbrev pub PayloadBitsCall : ℕ → ℕ → List Float → List ℕ → ℕ → List ℕ → Type 0
 PayloadBitsCall hz rec soft out code out′ = HandsOn bitsCode (λ a. PayloadBits (chosen hz rec) soft out a out′) code
 
+-- ---- the meter
+-- the count is written only where there is one
 pub record MeterCall (hz rec : ℕ) (sent read : List ℕ) (differing code differing′ : ℕ) : Type 0 where
   pub code-is : code ≡ codeOf (metered (chosen hz rec) sent read)
   pub differing-is : differing′ ≡ after (metered (chosen hz rec) sent read) (λ d. d) differing
@@ -91,12 +97,13 @@ lengthFault count numbers = firstFault ((no.Buffer, not (eqb (length numbers) co
 abbrev pub layoutOutcome : ℕ → ℕ → List ℕ → Outcome Layout
 layoutOutcome hz rec numbers = andThen (chosen hz rec) (λ l. judged (lengthFault 13 numbers) (answered l))
 
+-- its numbers are written only where it is chosen
 pub record LayoutCall (hz rec : ℕ) (numbers : List ℕ) (code : ℕ) (numbers′ : List ℕ) : Type 0 where
   pub code-is : code ≡ codeOf (layoutOutcome hz rec numbers)
   pub numbers-are : numbers′ ≡ after (layoutOutcome hz rec numbers) layoutNumbers numbers
 
 -- ---- an opening
--- 1 to 7, 11, 15 and 16, or the fresh state
+-- 1 to 7, 11 of the state's length, 15 and 16, or the fresh state
 unfoldable pub openedInto : ℕ → ℕ → List ℕ → List Float → ℕ → List Float → List ℕ → Outcome State
 openedInto hz rec markers phasors start book state =
     andThen (chosen hz rec)
@@ -104,6 +111,7 @@ openedInto hz rec markers phasors start book state =
     judged (orElse (tableFault l markers phasors) (orElse (lengthFault 19 state) (startFault start book)))
     (answered (openedState l start)))
 
+-- its numbers are written only where it opens
 pub record OpenCall (hz rec : ℕ) (markers : List ℕ) (phasors : List Float) (start : ℕ) (book : List Float) (state : List ℕ) (metric : Float) (code : ℕ) (state′ : List ℕ) (metric′ : Float) : Type 0 where
   pub code-is : code ≡ codeOf (openedInto hz rec markers phasors start book state)
   pub state-is : state′ ≡ after (openedInto hz rec markers phasors start book state) numbersOf state
@@ -119,13 +127,13 @@ pub record LentRelease : Type 0 where
 abbrev pub lentRelease : ℕ → ℕ → Float → LentRelease
 lentRelease r p m = record { released = r; at = p; metric = m }
 
--- what they hold after an accepted offer or feed, by what it releases
+-- what they hold after an accepted feed or offer: position and metric are written only with a release
 abbrev pub releaseAfter : Release → LentRelease → LentRelease
 releaseAfter NoRelease before = lentRelease 0 (before .at) (before .metric)
 releaseAfter (Released p m) before = lentRelease 1 (p .0) m
 
 -- ---- a feed
--- a state's or a hold's numbers, and the held metric
+-- the numbers of a state or a hold, and the held candidate's metric
 pub record LentState : Type 0 where
   pub numbers : List ℕ
   pub metric : Float
@@ -133,58 +141,35 @@ pub record LentState : Type 0 where
 abbrev pub lentState : List ℕ → Float → LentState
 lentState ns m = record { numbers = ns; metric = m }
 
--- 0, or the number of the refusal
-abbrev pub feedCode : FeedAnswer → ℕ
-feedCode (feed.Accepted r) = 0
-feedCode (feed.Refused f) = numberOf f
+-- a feed's answer in 01's terms, with its release
+abbrev pub feedRelease : FeedAnswer → Outcome Release
+feedRelease (feed.Accepted r) = answered r
+feedRelease (feed.Refused f) = refused (numberOf f)
 
--- what the state's numbers hold after a feed that leaves the state `next`: "After a refusal nothing lent has changed"
-abbrev pub stateAfter : FeedAnswer → State → LentState → LentState
-stateAfter (feed.Accepted r) next before = lentState (numbersOf next) (metricOf next)
-stateAfter (feed.Refused f) next before = before
-
--- and what the release's hold
-abbrev pub releasedBy : FeedAnswer → LentRelease → LentRelease
-releasedBy (feed.Accepted r) before = releaseAfter r before
-releasedBy (feed.Refused f) before = before
-
+-- a feed to the state that the lent numbers say: its answer and the state after it, as the numbers that are handed over
 pub record FeedCall (g : Given) (lent : LentState) (memory : List Float) (release : LentRelease) (code : ℕ) (lent′ : LentState) (memory′ : List Float) (release′ : LentRelease) : Type 0 where
   pub answer : FeedAnswer
   pub next : State
   pub fed : FedBy g (stateOf (lent .numbers) (lent .metric)) memory answer next memory′
-  pub code-is : code ≡ feedCode answer
-  pub state-is : lent′ ≡ stateAfter answer next lent
-  pub release-is : release′ ≡ releasedBy answer release
+  pub code-is : code ≡ codeOf (feedRelease answer)
+  pub state-is : lent′ ≡ after (feedRelease answer) (λ r. lentState (numbersOf next) (metricOf next)) lent
+  pub release-is : release′ ≡ after (feedRelease answer) (λ r. releaseAfter r release) release
 
 -- ---- a lone offer
 -- "with a candidate's metric where has_metric isn't 0"
 abbrev pub candidateOf : ℕ → Float → Candidate
 candidateOf has m = cond (eqb has 0) NoCandidate (Metric m)
 
--- 0, or the number of the refusal
-abbrev pub offerCode : LoneAnswer → ℕ
-offerCode (lone.Answered r) = 0
-offerCode (lone.Refused f) = numberOf f
-
--- what the hold's numbers hold after an offer that leaves the hold `next`
-abbrev pub holdAfter : LoneAnswer → Hold → LentState → LentState
-holdAfter (lone.Answered r) next before = lentState (holdNumbers next) (heldMetric next)
-holdAfter (lone.Refused f) next before = before
-
--- and what the release's hold
-abbrev pub releasedOf : LoneAnswer → LentRelease → LentRelease
-releasedOf (lone.Answered r) before = releaseAfter r before
-releasedOf (lone.Refused f) before = before
-
--- an offer to a hold of six numbers; one of another length is refused with 21
+-- a hold of six numbers is offered to; one of another length is refused with 21
 abbrev pub Offers : Bool → LentState → ℕ → ℕ → Float → LoneAnswer → Hold → Type 0
 Offers true lent p has m answer next = LoneOffers (holdAt 0 (lent .numbers) (lent .metric)) (position p) (candidateOf has m) answer next
-Offers false lent p has m answer next = answer ≡ lone.Refused no.Offer
+Offers false lent p has m answer next = answer ≡ Refused no.Offer
 
+-- an offer to the hold that the lent numbers say: its answer and the hold after it, as the numbers that are handed over
 pub record OfferCall (lent : LentState) (p has : ℕ) (m : Float) (release : LentRelease) (code : ℕ) (lent′ : LentState) (release′ : LentRelease) : Type 0 where
   pub answer : LoneAnswer
   pub next : Hold
   pub offers : Offers (eqb (length (lent .numbers)) 6) lent p has m answer next
-  pub code-is : code ≡ offerCode answer
-  pub hold-is : lent′ ≡ holdAfter answer next lent
-  pub release-is : release′ ≡ releasedOf answer release
+  pub code-is : code ≡ codeOf (outcome answer)
+  pub hold-is : lent′ ≡ after (outcome answer) (λ r. lentState (holdNumbers next) (heldMetric next)) lent
+  pub release-is : release′ ≡ after (outcome answer) (λ r. releaseAfter r release) release

@@ -1,3 +1,4 @@
 pub mod Numbers
-pub mod Round
 pub mod Calls
+pub mod Round
+pub mod Series

@@ -29,10 +29,11 @@ layoutNumbers l =
 abbrev pub narrow : ℕ → ℕ
 narrow x = cond (ltb x (2 ^ 32)) x 0
 
+-- a place in the 3 kHz signal
 abbrev pub position : ℕ → Position
 position p = record { 0 = p }
 
--- a search place: "Any number but 0 .. counts as 1"
+-- where the search goes on: "Any number but 0 .. counts as 1"
 abbrev pub placeOf : ℕ → ℕ → SearchPlace
 placeOf present p = cond (eqb present 0) Fresh (At (position p))
 
@@ -77,21 +78,26 @@ stateAt ns m =
 unfoldable pub stateOf : List ℕ → Float → State
 stateOf ns m = cond (eqb (length ns) 19) (stateAt ns m) (stateAt [] m)
 
--- ---- to numbers: "What is absent is stored as 0"
+-- ---- to numbers
+-- "What is absent is stored as 0"
 abbrev pub absent : Optional
 absent = record { present = 0; position = 0 }
 
+-- what is there is stored as 1 and its position
 abbrev pub here : Position → Optional
 here p = record { present = 1; position = p .0 }
 
+-- of where the search goes on
 abbrev pub placeNumbers : SearchPlace → Optional
 placeNumbers Fresh = absent
 placeNumbers (At p) = here p
 
+-- of the block
 abbrev pub blockNumbers : Block → Optional
 blockNumbers First = absent
 blockNumbers (From p) = here p
 
+-- of what is held
 abbrev pub heldNumbers : Held → Optional
 heldNumbers held.Empty = absent
 heldNumbers (held.At p m) = here p

@@ -1,7 +1,6 @@
 -- The numbers of a state, or of a hold, say that state or hold again. Assumes nothing.
 use Prim.Native.Nat.{ℕ, _<_, _^_}
 use mathlib.Core.Path.{_≡_, refl}
-use lib.Dec.{ltb}
 use borrow.Author.Tests.{lt-ltb}
 use Rattle.hold.specs.declared.Block.{Block}
 use Rattle.hold.specs.declared.Block.the-variants.{First, From}
@@ -11,7 +10,7 @@ use Rattle.hold.specs.declared.Hold.{Hold}
 use Rattle.rx.specs.declared.SearchPlace.{SearchPlace}
 use Rattle.rx.specs.declared.SearchPlace.the-variants.{Fresh, At}
 use Rattle.rx.specs.declared.State.{State}
-use Rattle.modem_c.specs.Numbers.{narrow, placeOf, blockOf, heldOf, spanAt, holdAt, stateAt, stateOf, placeNumbers, blockNumbers, heldNumbers, bestMetric, heldMetric, holdNumbers, numbersOf, metricOf}
+use Rattle.modem_c.specs.Numbers.{narrow, placeOf, blockOf, heldOf, holdAt, stateAt, stateOf, placeNumbers, blockNumbers, heldNumbers, bestMetric, heldMetric, holdNumbers, numbersOf, metricOf}
 
 narrow-small : (x : ℕ) → x < 2 ^ 32 → narrow x ≡ x
 narrow-small x h = rw (lt-ltb x (2 ^ 32) h)

@@ -186,7 +186,6 @@ pub extern "C" fn dimpstea_feed(
     ensures { λ r. ⌜ FeedCall (given bandwidth rec (now (markers .entry)) (now (phasors .entry)) (now (book .entry)) number (now (samples .entry))) (lentState (now (state .entry)) (now (metric .entry))) (now (memory .entry)) (lentRelease (now (released .entry)) (now («release_position» .entry)) (now («release_metric» .entry))) r (lentState (now (state .exit)) (now (metric .exit))) (now (memory .exit)) (lentRelease (now (released .exit)) (now («release_position» .exit)) (now («release_metric» .exit))) ⌝ }
 {
     let s = numbers::state_of(state, *metric);
-    let first = Position(number);
     let fed = rx::feed(
         bandwidth,
         rec,
@@ -195,15 +194,14 @@ pub extern "C" fn dimpstea_feed(
         book,
         s,
         memory,
-        first,
+        Position(number),
         samples,
     );
     let answer = fed.answer;
     match answer {
         FeedAnswer::Refused(r) => refusal::number(r),
         FeedAnswer::Accepted(release) => {
-            let next = fed.state;
-            numbers::write_state(state, metric, next);
+            numbers::write_state(state, metric, fed.state);
             numbers::write_release(release, released, release_position, release_metric);
             0
         }
@@ -242,8 +240,7 @@ pub extern "C" fn dimpstea_offer(
     match answer {
         LoneAnswer::Refused(r) => refusal::number(r),
         LoneAnswer::Answered(release) => {
-            let next = offered.next;
-            numbers::write_hold(hold, held_metric, next);
+            numbers::write_hold(hold, held_metric, offered.next);
             numbers::write_release(release, released, release_position, release_metric);
             0
         }

@@ -1,6 +1,6 @@
 -- `modem_c::dimpstea_feed` meets its contract: an accepted state has nineteen numbers, into which the next state is written. Assumes nothing.
 use Prim.Native.Nat.{ℕ, _≤_}
-use mathlib.Core.Path.{_≡_, refl, sym, ap, _∙_}
+use mathlib.Core.Path.{_≡_, refl}
 use mathlib.Core.Bool.{Bool, true, false, cond}
 use mathlib.Core.List.{List, []}
 use native.Mathlib.Omega.{arith}
@@ -106,7 +106,7 @@ enum-known-answer-2 : tie.Need-enum-known-answer-2
 enum-known-answer-2 c = search needs
 
 write-state-requires : tie.Need-write-state-requires
-write-state-requires c κs = nineteen _ _ _ _ _ (c .before .before .before .before .before .before .before .before .before .before .state-of .ensures) _ _ (c .before .before .before .before .before .before .before .before .feed .ensures) _ (c .before .before .before .before .answer2 .given .1)
+write-state-requires c κs = nineteen _ _ _ _ _ (c .before .before .before .before .before .before .before .before .before .state-of .ensures) _ _ (c .before .before .before .before .before .before .before .feed .ensures) _ (c .before .before .before .answer2 .given .1)
 
 write-release-requires : tie.Need-write-release-requires
 write-release-requires c κs = search needs
@@ -127,7 +127,7 @@ same-length-4 : tie.Need-same-length-4
 same-length-4 c = search needs
 
 returns-2 : tie.Need-returns-2
-returns-2 c = accepts _ _ _ _ _ (c .before .before .before .before .before .before .before .before .before .before .before .before .before .before .before .before .before .state-of .ensures) _ _ (c .before .before .before .before .before .before .before .before .before .before .before .before .before .before .before .feed .ensures) _ _ (c .before .before .before .before .before .before .before .before .before .before .before .answer2 .given .1) _ _ _ (c .before .before .before .before .before .before .write-state .ensures .0) (c .before .before .before .before .before .before .write-state .ensures .1) (c .write-release .ensures)
+returns-2 c = accepts _ _ _ _ _ (c .before .before .before .before .before .before .before .before .before .before .before .before .before .before .before .before .state-of .ensures) _ _ (c .before .before .before .before .before .before .before .before .before .before .before .before .before .before .feed .ensures) _ _ (c .before .before .before .before .before .before .before .before .before .before .answer2 .given .1) _ _ _ (c .before .before .before .before .before .before .write-state .ensures .0) (c .before .before .before .before .before .before .write-state .ensures .1) (c .write-release .ensures)
 
 pub dimpstea-feed-spec : {M : Type 1} → statement M
 dimpstea-feed-spec =

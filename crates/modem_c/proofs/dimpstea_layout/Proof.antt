@@ -1,6 +1,6 @@
 -- `modem_c::dimpstea_layout` meets its contract: the number of the first condition met, or the layout's numbers. Assumes nothing.
 use Prim.Native.Nat.{ℕ}
-use mathlib.Core.Path.{_≡_, refl, sym, ap, _∙_}
+use mathlib.Core.Path.{_≡_, sym, ap, _∙_}
 use mathlib.Core.List.{List}
 use lib.ListN.{length}
 use borrow.Author.Tests.{eq-eqb, ne-eqb}

@@ -14,7 +14,7 @@ use Rattle.hold.specs.declared.Candidate.{Candidate}
 use Rattle.hold.specs.declared.Release.{Release}
 use Rattle.hold.specs.declared.LoneOffered.{LoneOffered}
 use Rattle.hold.specs.declared.LoneAnswer.the-variants.{Refused, Answered}
-use Rattle.hold.specs.LoneOffer.{LoneOffers}
+use Rattle.hold.specs.LoneOffer.{outcome, LoneOffers}
 use Rattle.modem_c.specs.Numbers.{position, holdAt, holdNumbers, heldMetric}
 use Rattle.modem_c.specs.Calls.{LentRelease, lentState, candidateOf, releaseAfter, Offers, OfferCall}
 use borrow.Author.Needs.{needs}
@@ -23,6 +23,7 @@ use Rattle.modem_c.proofs.dimpstea_offer.Tie as tie
 
 module _ (ns : List ℕ) (m : Float) (p has : ℕ) (metric : Float) (release : LentRelease) where
   short : (length ns ≡ 6 → ⊥) → (code : ℕ) → code ≡ 21 → OfferCall (lentState ns m) p has metric release code (lentState ns m) release
+  unfolding outcome
   short n code k =
       record { answer = Refused Offer; next = holdAt 0 ns m; offers = rw (ne-eqb _ _ n) refl; code-is = k; hold-is = refl; release-is = refl }
 
@@ -31,11 +32,13 @@ module _ (ns : List ℕ) (m : Float) (p has : ℕ) (metric : Float) (release : L
     offered = rw (← e, ← d) f
 
     refuses : (x : Refusal) → o .answer ≡ Refused x → (code : ℕ) → code ≡ numberOf x → OfferCall (lentState ns m) p has metric release code (lentState ns m) release
+    unfolding outcome
     refuses x a code k =
         record { answer = o .answer; next = o .next; offers = rw (eq-eqb _ _ n) offered; code-is = rw a k; hold-is = rw a; release-is = rw a }
 
     answers : (r : Release) → o .answer ≡ Answered r → (ns′ : List ℕ) (m′ : Float) (release′ : LentRelease) → ns′ ≡ holdNumbers (o .next) → m′ ≡ heldMetric (o .next) → release′ ≡ releaseAfter r release
         → OfferCall (lentState ns m) p has metric release 0 (lentState ns′ m′) release′
+    unfolding outcome
     answers r a ns′ m′ release′ x y k =
         record { answer = o .answer; next = o .next; offers = rw (eq-eqb _ _ n) offered; code-is = rw a; hold-is = rw (a, x, y); release-is = rw a k }
 
@@ -79,7 +82,7 @@ same-length-2 : tie.Need-same-length-2
 same-length-2 c = search needs
 
 returns-3 : tie.Need-returns-3
-returns-3 c = answers _ _ _ _ _ _ (c .before .before .before .before .before .before .before .before .before .before .before .before .before .before .before .before .before .if1 .left) _ _ (c .before .before .before .before .before .before .before .before .before .before .before .before .before .before .before .hold-at .ensures) (c .before .before .before .before .before .before .before .before .before .before .before .before .before .before .candidate-of .ensures) _ (c .before .before .before .before .before .before .before .before .before .before .before .before .before .lone-offer .ensures) _ (c .before .before .before .before .before .before .before .before .before .before .before .answer2 .given .1) _ _ _ (c .before .before .before .before .before .before .write-hold .ensures .0) (c .before .before .before .before .before .before .write-hold .ensures .1) (c .write-release .ensures)
+returns-3 c = answers _ _ _ _ _ _ (c .before .before .before .before .before .before .before .before .before .before .before .before .before .before .before .before .if1 .left) _ _ (c .before .before .before .before .before .before .before .before .before .before .before .before .before .before .hold-at .ensures) (c .before .before .before .before .before .before .before .before .before .before .before .before .before .candidate-of .ensures) _ (c .before .before .before .before .before .before .before .before .before .before .before .before .lone-offer .ensures) _ (c .before .before .before .before .before .before .before .before .before .before .answer2 .given .1) _ _ _ (c .before .before .before .before .before .before .write-hold .ensures .0) (c .before .before .before .before .before .before .write-hold .ensures .1) (c .write-release .ensures)
 
 pub dimpstea-offer-spec : {M : Type 1} → statement M
 dimpstea-offer-spec =
