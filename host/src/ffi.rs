@@ -1,0 +1,114 @@
+//! The exports of libmodem_c.a, as include/dimpstea.h declares them: a slice is a pointer and a length.
+extern "C" {
+    pub fn dimpstea_layout(bandwidth: u32, record: u32, numbers: *mut u64, numbers_len: usize) -> u32;
+
+    pub fn dimpstea_modulate(
+        bandwidth: u32,
+        record: u32,
+        markers: *const u16,
+        markers_len: usize,
+        phasors: *const f64,
+        phasors_len: usize,
+        frames: u32,
+        payload: *const u8,
+        payload_len: usize,
+        draws: *const u8,
+        draws_len: usize,
+        rows: *mut f64,
+        rows_len: usize,
+    ) -> u32;
+
+    pub fn dimpstea_nco_phase(
+        bandwidth: u32,
+        record: u32,
+        window: usize,
+        phases: *mut f32,
+        phases_len: usize,
+        out: *mut f32,
+        out_len: usize,
+    ) -> u32;
+
+    pub fn dimpstea_carrier_audio(
+        bandwidth: u32,
+        record: u32,
+        frames: u32,
+        symbols: *const f64,
+        symbols_len: usize,
+        place: u64,
+        window: usize,
+        waves: *const f64,
+        waves_len: usize,
+        phases: *mut f32,
+        phases_len: usize,
+        out: *mut f64,
+        out_len: usize,
+    ) -> u32;
+
+    pub fn dimpstea_open(
+        bandwidth: u32,
+        record: u32,
+        markers: *const u16,
+        markers_len: usize,
+        phasors: *const f64,
+        phasors_len: usize,
+        start: u64,
+        book: *const f64,
+        book_len: usize,
+        state: *mut u64,
+        state_len: usize,
+        metric: *mut f64,
+    ) -> u32;
+
+    pub fn dimpstea_feed(
+        bandwidth: u32,
+        record: u32,
+        markers: *const u16,
+        markers_len: usize,
+        phasors: *const f64,
+        phasors_len: usize,
+        book: *const f64,
+        book_len: usize,
+        state: *mut u64,
+        state_len: usize,
+        metric: *mut f64,
+        memory: *mut f64,
+        memory_len: usize,
+        number: u64,
+        samples: *const f64,
+        samples_len: usize,
+        released: *mut u64,
+        release_position: *mut u64,
+        release_metric: *mut f64,
+    ) -> u32;
+
+    pub fn dimpstea_offer(
+        hold: *mut u64,
+        hold_len: usize,
+        held_metric: *mut f64,
+        position: u64,
+        has_metric: u64,
+        metric: f64,
+        released: *mut u64,
+        release_position: *mut u64,
+        release_metric: *mut f64,
+    ) -> u32;
+
+    pub fn dimpstea_payload_bits(
+        bandwidth: u32,
+        record: u32,
+        soft: *const f64,
+        soft_len: usize,
+        out: *mut u8,
+        out_len: usize,
+    ) -> u32;
+
+    pub fn dimpstea_meter(
+        bandwidth: u32,
+        record: u32,
+        sent: *const u8,
+        sent_len: usize,
+        read: *const u8,
+        read_len: usize,
+        differing: *mut u64,
+    ) -> u32;
+}

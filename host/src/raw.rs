@@ -1,0 +1,230 @@
+//! The open calls as they are: any numbers and lengths may be given, and nothing is tested on this side.
+//!
+//! Complex numbers are two `f64`, the real part first ([`flat`](crate::flat) gives them so). After a refusal
+//! nothing lent has changed.
+use crate::ffi;
+use crate::refusal::judged;
+use crate::{Detection, Refusal};
+
+/// How many numbers [`layout`] writes.
+pub const LAYOUT: usize = 13;
+/// How many numbers a receiver's state has, beside its metric; include/dimpstea.h has their order.
+pub const STATE: usize = 19;
+/// How many numbers a hold by itself has, beside its metric.
+pub const HOLD: usize = 6;
+
+/// A layout's numbers: conditions 1 2 11.
+pub fn layout(bandwidth: u32, record: u32, numbers: &mut [u64]) -> Result<(), Refusal> {
+    // SAFETY: here and below, each pointer goes with the length of its own slice, and Rust keeps what is lent
+    // for writing apart from everything else.
+    judged(unsafe { ffi::dimpstea_layout(bandwidth, record, numbers.as_mut_ptr(), numbers.len()) })
+}
+
+/// The symbol rows of one to four frames: conditions 1 to 11.
+#[allow(clippy::too_many_arguments)]
+pub fn modulate(
+    bandwidth: u32,
+    record: u32,
+    markers: &[u16],
+    phasors: &[f64],
+    frames: u32,
+    payload: &[u8],
+    draws: &[u8],
+    rows: &mut [f64],
+) -> Result<(), Refusal> {
+    judged(unsafe {
+        ffi::dimpstea_modulate(
+            bandwidth,
+            record,
+            markers.as_ptr(),
+            markers.len(),
+            phasors.as_ptr(),
+            phasors.len(),
+            frames,
+            payload.as_ptr(),
+            payload.len(),
+            draws.as_ptr(),
+            draws.len(),
+            rows.as_mut_ptr(),
+            rows.len(),
+        )
+    })
+}
+
+/// Each carrier's phase at each place of a window, and the phases after it: conditions 1 2 11 13 14.
+pub fn nco_phase(
+    bandwidth: u32,
+    record: u32,
+    window: usize,
+    phases: &mut [f32],
+    out: &mut [f32],
+) -> Result<(), Refusal> {
+    judged(unsafe {
+        ffi::dimpstea_nco_phase(
+            bandwidth,
+            record,
+            window,
+            phases.as_mut_ptr(),
+            phases.len(),
+            out.as_mut_ptr(),
+            out.len(),
+        )
+    })
+}
+
+/// A window of the 48 kHz signal, and the phases after it: conditions 1 2 8 11 to 14.
+#[allow(clippy::too_many_arguments)]
+pub fn carrier_audio(
+    bandwidth: u32,
+    record: u32,
+    frames: u32,
+    symbols: &[f64],
+    place: u64,
+    window: usize,
+    waves: &[f64],
+    phases: &mut [f32],
+    out: &mut [f64],
+) -> Result<(), Refusal> {
+    judged(unsafe {
+        ffi::dimpstea_carrier_audio(
+            bandwidth,
+            record,
+            frames,
+            symbols.as_ptr(),
+            symbols.len(),
+            place,
+            window,
+            waves.as_ptr(),
+            waves.len(),
+            phases.as_mut_ptr(),
+            phases.len(),
+            out.as_mut_ptr(),
+            out.len(),
+        )
+    })
+}
+
+/// A fresh receiver's state: conditions 1 to 7, 11, 15 16.
+#[allow(clippy::too_many_arguments)]
+pub fn open(
+    bandwidth: u32,
+    record: u32,
+    markers: &[u16],
+    phasors: &[f64],
+    start: u64,
+    book: &[f64],
+    state: &mut [u64],
+    metric: &mut f64,
+) -> Result<(), Refusal> {
+    judged(unsafe {
+        ffi::dimpstea_open(
+            bandwidth,
+            record,
+            markers.as_ptr(),
+            markers.len(),
+            phasors.as_ptr(),
+            phasors.len(),
+            start,
+            book.as_ptr(),
+            book.len(),
+            state.as_mut_ptr(),
+            state.len(),
+            metric,
+        )
+    })
+}
+
+/// Feeds samples, the first of which has that number: conditions 1 to 7, 16 to 20.
+#[allow(clippy::too_many_arguments)]
+pub fn feed(
+    bandwidth: u32,
+    record: u32,
+    markers: &[u16],
+    phasors: &[f64],
+    book: &[f64],
+    state: &mut [u64],
+    metric: &mut f64,
+    memory: &mut [f64],
+    number: u64,
+    samples: &[f64],
+) -> Result<Option<Detection>, Refusal> {
+    let mut release = Release::default();
+    judged(unsafe {
+        ffi::dimpstea_feed(
+            bandwidth,
+            record,
+            markers.as_ptr(),
+            markers.len(),
+            phasors.as_ptr(),
+            phasors.len(),
+            book.as_ptr(),
+            book.len(),
+            state.as_mut_ptr(),
+            state.len(),
+            metric,
+            memory.as_mut_ptr(),
+            memory.len(),
+            number,
+            samples.as_ptr(),
+            samples.len(),
+            &mut release.released,
+            &mut release.position,
+            &mut release.metric,
+        )
+    })?;
+    Ok(release.detection())
+}
+
+/// Offers a position, with a candidate's metric or none, to a hold by itself: condition 21.
+pub fn offer(
+    hold: &mut [u64],
+    held_metric: &mut f64,
+    position: u64,
+    metric: Option<f64>,
+) -> Result<Option<Detection>, Refusal> {
+    let mut release = Release::default();
+    judged(unsafe {
+        ffi::dimpstea_offer(
+            hold.as_mut_ptr(),
+            hold.len(),
+            held_metric,
+            position,
+            u64::from(metric.is_some()),
+            metric.unwrap_or(0.0),
+            &mut release.released,
+            &mut release.position,
+            &mut release.metric,
+        )
+    })?;
+    Ok(release.detection())
+}
+
+/// The payload bits that the signs of the soft bits give: conditions 1 2 11.
+pub fn payload_bits(bandwidth: u32, record: u32, soft: &[f64], out: &mut [u8]) -> Result<(), Refusal> {
+    judged(unsafe {
+        ffi::dimpstea_payload_bits(bandwidth, record, soft.as_ptr(), soft.len(), out.as_mut_ptr(), out.len())
+    })
+}
+
+/// How many bits of two payloads differ: conditions 1 2 9.
+pub fn meter(bandwidth: u32, record: u32, sent: &[u8], read: &[u8]) -> Result<u64, Refusal> {
+    let mut differing = 0;
+    judged(unsafe {
+        ffi::dimpstea_meter(bandwidth, record, sent.as_ptr(), sent.len(), read.as_ptr(), read.len(), &mut differing)
+    })?;
+    Ok(differing)
+}
+
+/// The three numbers that a release is handed over in.
+#[derive(Default)]
+struct Release {
+    released: u64,
+    position: u64,
+    metric: f64,
+}
+
+impl Release {
+    fn detection(&self) -> Option<Detection> {
+        (self.released != 0).then_some(Detection { position: self.position, metric: self.metric })
+    }
+}
