@@ -1,0 +1,164 @@
+//! The fixed list: what the programs replay_symbols, replay_audio and feed_cases print, made from the reference's
+//! answers to the inputs of crates/replay_inputs, beside what the repository has them print.
+use crate::count::Count;
+use reference::adaptor::{self, Layout, Tables};
+use reference::Complex64;
+use std::fmt::Write;
+use std::fs;
+use std::path::Path;
+
+/// Writes the reference's text of each program to target/replays, and compares it with the program's `stdout`.
+pub fn run(count: &mut Count) {
+    let repository = Path::new(env!("CARGO_MANIFEST_DIR")).join("..");
+    let written = repository.join("target/replays");
+    fs::create_dir_all(&written).expect("target/replays");
+    for (program, text) in [("replay_symbols", symbols()), ("replay_audio", audio()), ("feed_cases", detections())] {
+        fs::write(written.join(program), &text).expect("target/replays");
+        let kept = fs::read_to_string(repository.join("crates").join(program).join("stdout")).unwrap_or_default();
+        // What feed_cases prints of refusals comes after the detections.
+        count.compare("fixed lists", kept.starts_with(&text), || {
+            format!("crates/{program}/stdout doesn't begin as target/replays/{program}, which the reference gives")
+        });
+    }
+}
+
+/// The generator of crates/replay_inputs.
+struct Chain(u64);
+
+impl Chain {
+    fn next(&mut self) -> u64 {
+        self.0 = self.0.wrapping_mul(6_364_136_223_846_793_005).wrapping_add(1_442_695_040_888_963_407);
+        self.0
+    }
+
+    fn draw(&mut self, below: usize) -> usize {
+        (self.next() >> 33) as usize % below
+    }
+
+    fn draws(&mut self, count: usize, below: usize) -> Vec<u8> {
+        (0..count).map(|_| self.draw(below) as u8).collect()
+    }
+
+    fn noise(&mut self) -> f64 {
+        (self.next() >> 33) as f64 * 0.000_000_000_465_661_287_307_739_3 * 16.0 - 8.0
+    }
+
+    fn tables(&mut self, layout: Layout, book: &[Complex64]) -> Tables {
+        let (nc, per, row) = (layout.nc(), layout.markers(), layout.spf() - 1);
+        let part = (layout.spf() - 8) / per;
+        let mut markers = vec![0; nc * (per + row)];
+        for carrier in 0..nc {
+            for i in 0..per {
+                let value = 5 + i * part + self.draw(part);
+                markers[carrier * per + i] = value as u16;
+                markers[nc * per + carrier * row + value - 2] = 1;
+            }
+        }
+        let phasors = (0..nc).map(|_| (0..layout.nsym()).map(|_| book[self.draw(3000)]).collect()).collect();
+        Tables { markers, phasors }
+    }
+
+    /// The rows of frames of drawn bits.
+    fn rows(&mut self, layout: Layout, tables: &Tables, frames: usize) -> Vec<Vec<Complex64>> {
+        let payload: Vec<Vec<u8>> = (0..frames).map(|_| self.draws(layout.n(), 2)).collect();
+        let draws = self.draws(layout.nc() * (frames + 8), 1 << layout.bps());
+        adaptor::symbols(layout, tables, &payload, &draws)
+    }
+
+    /// Each symbol held for 32 samples, turned to its carrier, with noise.
+    fn signal(
+        &mut self,
+        layout: Layout,
+        rows: &[Vec<Complex64>],
+        book: &[Complex64],
+        lead: usize,
+        len: usize,
+    ) -> Vec<Complex64> {
+        let sample = |n: usize| {
+            let mut z = Complex64::default();
+            for (carrier, row) in rows.iter().enumerate() {
+                let late = n.checked_sub(lead + layout.stagger(carrier)).and_then(|k| row.get(k / 32));
+                if let Some(symbol) = late {
+                    z += symbol * book[layout.carriers()[carrier] as usize * n % 3000].conj();
+                }
+            }
+            z
+        };
+        (0..len).map(|n| sample(n) + Complex64::new(self.noise(), self.noise())).collect()
+    }
+}
+
+fn book() -> Vec<Complex64> {
+    let turn = Complex64::new(0.999_997_806_755_379_3, -0.002_094_393_571_219_374);
+    std::iter::successors(Some(Complex64::new(0.9999, 0.0)), |z| Some(z * turn)).take(3000).collect()
+}
+
+fn layout(record: u32) -> Layout {
+    adaptor::layout(500, record).expect("a PSK layout")
+}
+
+/// The sending of one frame that symbols and audio are made from.
+fn one_frame(record: u32) -> Vec<Vec<Complex64>> {
+    let (layout, book, mut chain) = (layout(record), book(), Chain(1));
+    let tables = chain.tables(layout, &book);
+    chain.rows(layout, &tables, 1)
+}
+
+fn symbols() -> String {
+    let mut text = String::new();
+    for record in [4, 6] {
+        writeln!(text, "500 {record}").unwrap();
+        for symbol in one_frame(record).concat() {
+            writeln!(text, "{:016x} {:016x}", symbol.re.to_bits(), symbol.im.to_bits()).unwrap();
+        }
+    }
+    text
+}
+
+/// Three windows: place, length, and how many of its last samples are printed.
+fn windows(record: u32) -> [(usize, usize, usize); 3] {
+    let last = if record == 4 { (204_000, 2623, 48) } else { (196_000, 3023, 48) };
+    [(0, 48, 48), (100_000, 96, 96), last]
+}
+
+fn audio() -> String {
+    let book = book();
+    let wave = |phase: f32| {
+        let turn = book[phase.to_bits() as usize % 3000];
+        (turn.re, turn.im)
+    };
+    let mut text = String::new();
+    for record in [4, 6] {
+        let whole = adaptor::audio(layout(record), &one_frame(record), &wave);
+        for (place, window, printed) in windows(record) {
+            writeln!(text, "500 {record} {place}").unwrap();
+            let end = place + window;
+            for sample in &whole[end - printed..end] {
+                writeln!(text, "{:016x}", sample.to_bits()).unwrap();
+            }
+            let phases: Vec<String> = adaptor::phases(layout(record), end)
+                .iter()
+                .map(|row| format!("{:08x}", row[end - 1].to_bits()))
+                .collect();
+            writeln!(text, "{}", phases.join(" ")).unwrap();
+        }
+    }
+    text
+}
+
+/// The detections of feed_cases, which feeds the same signal in three cuttings.
+fn detections() -> String {
+    let (layout, book, mut chain) = (layout(4), book(), Chain(1));
+    let tables = chain.tables(layout, &book);
+    let rows = chain.rows(layout, &tables, 2);
+    let samples = chain.signal(layout, &rows, &book, 700, 26_800);
+    let mut receiver = adaptor::open(layout, &tables, 1000);
+    let mut text = String::new();
+    for feed in samples.chunks(4000) {
+        for (position, metric) in receiver.feed(feed, &book) {
+            writeln!(text, "{position} {:016x}", metric.to_bits()).unwrap();
+        }
+    }
+    let cutting = format!("{} as told\n{text}", samples.len());
+    format!("{}equal\n", cutting.repeat(3))
+}
