@@ -46,14 +46,16 @@ abbrev pub codeOf : {A : Type 0} → Outcome A → ℕ
 codeOf (refused k) = k
 codeOf (answered a) = 0
 
--- the same of a sender's answer, of a window's and of a reader's
+-- the same of the sender's answer
 abbrev pub sentCode : Sent → ℕ
 sentCode sent.Done = 0
 sentCode (sent.Refused r) = numberOf r
 
+-- of an answer about a window of places
 abbrev pub windowCode : Answer → ℕ
 windowCode a = codeOf (window.outcome a)
 
+-- of an answer about soft bits
 abbrev pub bitsCode : bits.Answer → ℕ
 bitsCode a = codeOf (payload.outcome a)
 
@@ -118,18 +120,19 @@ pub record OpenCall (hz rec : ℕ) (markers : List ℕ) (phasors : List Float) (
   pub metric-is : metric′ ≡ after (openedInto hz rec markers phasors start book state) metricOf metric
 
 -- ---- a release
--- the three numbers of a release
+-- the three numbers of a release: whether there is one, its position and its metric
 pub record LentRelease : Type 0 where
   pub released : ℕ
-  pub at : ℕ
+  pub position : ℕ
   pub metric : Float
 
+-- these three
 abbrev pub lentRelease : ℕ → ℕ → Float → LentRelease
-lentRelease r p m = record { released = r; at = p; metric = m }
+lentRelease r p m = record { released = r; position = p; metric = m }
 
 -- what they hold after an accepted feed or offer: position and metric are written only with a release
 abbrev pub releaseAfter : Release → LentRelease → LentRelease
-releaseAfter NoRelease before = lentRelease 0 (before .at) (before .metric)
+releaseAfter NoRelease before = lentRelease 0 (before .position) (before .metric)
 releaseAfter (Released p m) before = lentRelease 1 (p .0) m
 
 -- ---- a feed
@@ -138,6 +141,7 @@ pub record LentState : Type 0 where
   pub numbers : List ℕ
   pub metric : Float
 
+-- these two
 abbrev pub lentState : List ℕ → Float → LentState
 lentState ns m = record { numbers = ns; metric = m }
 
@@ -165,7 +169,7 @@ abbrev pub Offers : Bool → LentState → ℕ → ℕ → Float → LoneAnswer 
 Offers true lent p has m answer next = LoneOffers (holdAt 0 (lent .numbers) (lent .metric)) (position p) (candidateOf has m) answer next
 Offers false lent p has m answer next = answer ≡ Refused no.Offer
 
--- an offer to the hold that the lent numbers say: its answer and the hold after it, as the numbers that are handed over
+-- an offer to a hold: its answer and the hold after it, as the numbers that are handed over
 pub record OfferCall (lent : LentState) (p has : ℕ) (m : Float) (release : LentRelease) (code : ℕ) (lent′ : LentState) (release′ : LentRelease) : Type 0 where
   pub answer : LoneAnswer
   pub next : Hold

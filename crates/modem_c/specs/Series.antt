@@ -1,4 +1,4 @@
--- Calls in a row: the numbers that an opening or a feed leaves are read by the next feed as the state that it came to. Assumes nothing.
+-- Calls in a row: the numbers that a call leaves are read by the next as the state, or the hold, that it came to. Assumes nothing.
 use Prim.Native.Nat.{ℕ, _≤_, _<_, _^_}
 use mathlib.Core.Path.{_≡_, refl, sym, ap, _∙_}
 use mathlib.Core.Bool.{Bool, true, false, cond}
@@ -7,23 +7,32 @@ use native.Mathlib.Omega.{arith}
 use lib.Dec.{ltb, eqb}
 use lib.ListN.{length, getD}
 use lib.Ieee.{Float}
-use borrow.Author.Tests.{ltb-true}
+use borrow.Author.Tests.{ltb-true, eq-eqb}
+use Rattle.refusal.specs.declared.Position.{Position}
+use Rattle.refusal.specs.declared.Refusal.{Refusal}
 use Rattle.refusal.specs.declared.Fault.{Fault}
 use Rattle.refusal.specs.declared.Fault.the-variants.{Clear, Met}
+use Rattle.refusal.specs.Refusal.{numberOf}
 use Rattle.refusal.specs.Outcome.{Outcome, refused, answered, andThen, orElse, judged}
 use Rattle.level.specs.declared.Layout.{Layout}
 use Rattle.level.specs.Layout.{layoutOf, chosen}
 use Rattle.level.specs.Rows.{IsLayout, is-layout, at-most}
 use Rattle.dat.specs.Tables.{tableFault}
+use Rattle.hold.specs.declared.Hold.{Hold}
+use Rattle.hold.specs.declared.Candidate.{Candidate}
+use Rattle.hold.specs.declared.LoneAnswer.{LoneAnswer}
+use Rattle.hold.specs.declared.LoneAnswer.the-variants as lone
+use Rattle.hold.specs.Offer.{offered}
+use Rattle.hold.specs.LoneOffer.{loneFault, outcome, unlessMet, LoneOffers}
 use Rattle.rx.specs.declared.State.{State}
 use Rattle.rx.specs.declared.FeedAnswer.{FeedAnswer}
 use Rattle.rx.specs.declared.FeedAnswer.the-variants.{Accepted, Refused}
 use Rattle.rx.specs.Open.{openedState, startFault}
 use Rattle.rx.specs.Feed.{Given, Left}
 use Rattle.meter.specs.PayloadBits.{after}
-use Rattle.modem_c.specs.Numbers.{narrow, stateAt, stateOf, numbersOf, metricOf}
-use Rattle.modem_c.specs.Calls.{LentState, lentState, LentRelease, feedRelease, FeedCall, lengthFault, openedInto, OpenCall}
-use Rattle.modem_c.specs.Round.{state-round}
+use Rattle.modem_c.specs.Numbers.{narrow, position, holdAt, stateAt, stateOf, holdNumbers, heldMetric, numbersOf, metricOf}
+use Rattle.modem_c.specs.Calls.{LentState, lentState, LentRelease, feedRelease, FeedCall, lengthFault, openedInto, OpenCall, candidateOf, Offers, OfferCall}
+use Rattle.modem_c.specs.Round.{hold-round, state-round}
 
 -- ---- what numbers say has a bandwidth and a record that a u32 holds
 narrow-below : (x : ℕ) → narrow x < 2 ^ 32
@@ -86,3 +95,22 @@ module _ (hz rec : ℕ) (markers : List ℕ) (phasors : List Float) (start : ℕ
       let ns : state′ ≡ numbersOf s = c .state-is ∙ ap (λ (o : Outcome State). after o numbersOf state) e in
       let m : metric′ ≡ metricOf s = c .metric-is ∙ ap (λ (o : Outcome State). after o metricOf metric) e in
       rw (ns, m) (state-round s (b .0) (b .1))
+
+-- ---- an offer, answered or refused
+refused-leaves : (h : Hold) (p : Position) (c : Candidate) (r : Refusal) (next : Hold) → LoneOffers h p c (lone.Refused r) next → next ≡ h
+unfolding outcome unlessMet
+refused-leaves h p c r next o = go (loneFault h p c) (o .answers) (o .leaves)
+  where
+    go : (f : Fault) → refused (numberOf r) ≡ judged f (answered (offered h p c .release)) → next ≡ unlessMet f (offered h p c .next) h → next ≡ h
+    go (Met x) a l = l
+    go Clear a l = never a
+
+module _ (lent : LentState) (p has : ℕ) (m : Float) (release : LentRelease) (code : ℕ) (lent′ : LentState) (release′ : LentRelease) where
+  pub offered-read : (c : OfferCall lent p has m release code lent′ release′) → length (lent .numbers) ≡ 6 → holdAt 0 (lent′ .numbers) (lent′ .metric) ≡ c .next
+  unfolding outcome
+  offered-read c six = go (c .answer) (rw (eq-eqb _ _ six) at (c .offers)) (c .hold-is)
+    where
+      go : (a : LoneAnswer) → Offers true lent p has m a (c .next)
+          → lent′ ≡ after (outcome a) (λ r. lentState (holdNumbers (c .next)) (heldMetric (c .next))) lent → holdAt 0 (lent′ .numbers) (lent′ .metric) ≡ c .next
+      go (lone.Refused r) o e = rw e (sym (refused-leaves (holdAt 0 (lent .numbers) (lent .metric)) (position p) (candidateOf has m) r (c .next) o))
+      go (lone.Answered r) o e = rw e (hold-round (c .next))

@@ -1,7 +1,5 @@
 // The open calls for C (include/dimpstea.h): each answers 0, or the number of the first condition met.
 ghost use mathlib.Core.Path.{_≡_};
-ghost use lib.ListN.{length};
-ghost use Rattle.level.specs.Layout.{chosen};
 ghost use Rattle.psk.specs.Symbols.{sending};
 ghost use Rattle.rx.specs.Feed.{given};
 ghost use Rattle.modem_c.specs.Calls.{sentCode, windowCode, bitsCode, candidateOf, lentRelease, lentState, LayoutCall, ModulateCall, NcoPhaseCall, CarrierAudioCall, PayloadBitsCall, MeterCall, OpenCall, FeedCall, OfferCall};
@@ -20,6 +18,7 @@ use refusal::Refusal;
 use rx::FeedAnswer;
 use rx::OpenAnswer;
 
+// The sender's answer as a number; the same for a window's and a reader's.
 fn sent_code(a: Sent) -> u32
     ensures { λ r. ⌜ r ≡ sentCode a ⌝ }
 {
@@ -47,6 +46,7 @@ fn bits_code(a: meter::Answer) -> u32
     }
 }
 
+// The layout's numbers.
 #[no_mangle]
 pub extern "C" fn dimpstea_layout(bandwidth: u32, rec: u32, numbers: &mut [u64]) -> u32
     ensures { λ r. ⌜ LayoutCall bandwidth rec (now (numbers .entry)) r (now (numbers .exit)) ⌝ }
@@ -65,6 +65,7 @@ pub extern "C" fn dimpstea_layout(bandwidth: u32, rec: u32, numbers: &mut [u64])
     }
 }
 
+// The rows of all carriers.
 #[no_mangle]
 pub extern "C" fn dimpstea_modulate(
     bandwidth: u32,
@@ -90,6 +91,7 @@ pub extern "C" fn dimpstea_modulate(
     ))
 }
 
+// Each carrier's phase at each place of a window, and the phases after it.
 #[no_mangle]
 pub extern "C" fn dimpstea_nco_phase(
     bandwidth: u32,
@@ -103,6 +105,7 @@ pub extern "C" fn dimpstea_nco_phase(
     window_code(nco::nco_phase(bandwidth, rec, window, phases, out))
 }
 
+// The samples of a window of places, and the phases after it.
 #[no_mangle]
 pub extern "C" fn dimpstea_carrier_audio(
     bandwidth: u32,
@@ -131,7 +134,7 @@ pub extern "C" fn dimpstea_carrier_audio(
     ))
 }
 
-// The state's length is met after the tables (1 to 7) and before start and turn book (15 and 16).
+// A fresh receiver's state. Its length is met after the tables (1 to 7) and before start and turn book (15 and 16).
 #[no_mangle]
 pub extern "C" fn dimpstea_open(
     bandwidth: u32,
@@ -167,6 +170,7 @@ pub extern "C" fn dimpstea_open(
     }
 }
 
+// A feed. Only a state of 19 numbers is accepted, so that there is room for the next one.
 #[no_mangle]
 pub extern "C" fn dimpstea_feed(
     bandwidth: u32,
@@ -208,6 +212,7 @@ pub extern "C" fn dimpstea_feed(
     }
 }
 
+// What an offer brings.
 fn candidate_of(has_metric: u64, metric: f64) -> Candidate
     ensures { λ r. ⌜ r ≡ candidateOf «has_metric» metric ⌝ }
 {
@@ -217,6 +222,7 @@ fn candidate_of(has_metric: u64, metric: f64) -> Candidate
     Candidate::Metric(metric)
 }
 
+// An offer to a hold by itself.
 #[no_mangle]
 pub extern "C" fn dimpstea_offer(
     hold: &mut [u64],
@@ -247,6 +253,7 @@ pub extern "C" fn dimpstea_offer(
     }
 }
 
+// The payload that soft bits read as.
 #[no_mangle]
 pub extern "C" fn dimpstea_payload_bits(
     bandwidth: u32,
@@ -259,6 +266,7 @@ pub extern "C" fn dimpstea_payload_bits(
     bits_code(meter::payload_bits(bandwidth, rec, soft, out))
 }
 
+// The differing bits of a payload sent and a payload read.
 #[no_mangle]
 pub extern "C" fn dimpstea_meter(
     bandwidth: u32,
