@@ -40,16 +40,33 @@ fn phases_after(rec: u32, lead: usize, phases: &mut [f32], angles: &mut [f32]) {
     }
 }
 
-// A wave for each phase: the entry of the turn book that its bits choose, so that no other sine is needed.
-fn put_waves(book: &[f64], angles: &[f32], waves: &mut [f64])
-    requires { ⌜ (length (now book) ≡ 6000) × (length (now waves) ≡ 2 * length (now angles)) ⌝ }
+// A wave for each of the first `count` phases: the entry of the turn book that its bits choose, so that no other sine is needed.
+fn put_waves(book: &[f64], count: usize, angles: &[f32], waves: &mut [f64])
+    requires { ⌜ (length (now book) ≡ 6000) × (count ≤ length (now angles)) × (2 * count ≤ length (now waves)) ⌝ }
 {
     let mut i = 0;
-    while i < angles.len() {
+    while i < count {
         let entry = bits_of(angles[i]) % 3000;
         complex::put(waves, i, complex::get(book, entry as usize));
         i += 1;
     }
+}
+
+// The waves of a window, `count` in all.
+fn window_waves(
+    rec: u32,
+    w: Window,
+    count: usize,
+    book: &[f64],
+    phases: &mut [f32],
+    angles: &mut [f32],
+    waves: &mut [f64],
+)
+    requires { ⌜ (length (now book) ≡ 6000) × (count ≤ length (now angles)) × (2 * count ≤ length (now waves)) ⌝ }
+{
+    phases_after(rec, w.lead, phases, angles);
+    nco::nco_phase(500, rec, w.len, phases, &mut angles[..count]);
+    put_waves(book, count, angles, waves);
 }
 
 // The last samples, a line each.
@@ -85,23 +102,18 @@ fn show_place(rec: u32, place: u64) {
     replay::end_line();
 }
 
-// A window's signal over buffers of its lengths, from the phases at its start, which are lent twice: `ahead` gives those that the waves are made of.
+// A window's signal, from its waves and the phases at its start.
 fn play(
     rec: u32,
     w: Window,
     symbols: &[f64],
-    book: &[f64],
+    waves: &[f64],
     phases: &mut [f32],
-    ahead: &mut [f32],
-    angles: &mut [f32],
-    waves: &mut [f64],
     samples: &mut [f64],
 )
-    requires { ⌜ (length (now book) ≡ 6000) × (length (now waves) ≡ 2 * length (now angles)) × (w .shown ≤ length (now samples)) × (w .lead ≤ 51) ⌝ }
+    requires { ⌜ (w .shown ≤ length (now samples)) × (w .lead ≤ 51) ⌝ }
 {
     let place = 4000 * w.lead as u64;
-    nco::nco_phase(500, rec, w.len, ahead, angles);
-    put_waves(book, angles, waves);
     let answer = audio::carrier_audio(
         500,
         rec,
@@ -122,36 +134,6 @@ fn play(
     show_phases(phases);
 }
 
-// A window over longer buffers: `count` phases of all carriers.
-fn play_part(
-    rec: u32,
-    w: Window,
-    count: usize,
-    symbols: &[f64],
-    book: &[f64],
-    phases: &mut [f32],
-    ahead: &mut [f32],
-    angles: &mut [f32],
-    waves: &mut [f64],
-    samples: &mut [f64],
-)
-    requires { ⌜ (length (now book) ≡ 6000) × (count ≤ length (now angles)) × (2 * count ≤ length (now waves)) × (w .len ≤ length (now samples)) × (w .shown ≤ w .len) × (w .lead ≤ 51) ⌝ }
-{
-    let parts = 2 * count;
-    let len = w.len;
-    play(
-        rec,
-        w,
-        symbols,
-        book,
-        phases,
-        ahead,
-        &mut angles[..count],
-        &mut waves[..parts],
-        &mut samples[..len],
-    );
-}
-
 // The phases of nc carriers along a window.
 fn count_of(nc: usize, w: Window) -> usize
     requires { ⌜ (nc ≤ 3) × Within w ⌝ }
@@ -160,7 +142,7 @@ fn count_of(nc: usize, w: Window) -> usize
     nc * w.len
 }
 
-// A window over buffers for 4,000 places of nc carriers.
+// A window over buffers for 4,000 places of nc carriers. The waves are made from phases that are then set back to the window's start.
 fn show_window(
     rec: u32,
     nc: usize,
@@ -168,27 +150,24 @@ fn show_window(
     symbols: &[f64],
     book: &[f64],
     phases: &mut [f32],
-    ahead: &mut [f32],
     angles: &mut [f32],
     waves: &mut [f64],
     samples: &mut [f64],
 )
     requires { ⌜ (nc ≤ 3) × (length (now book) ≡ 6000) × (length (now angles) ≡ nc * 4000) × (length (now waves) ≡ 2 * (nc * 4000)) × (length (now samples) ≡ 4000) × Within w ⌝ }
 {
-    phases_after(rec, w.lead, phases, angles);
-    phases_after(rec, w.lead, ahead, angles);
     let count = count_of(nc, w);
-    play_part(
+    let parts = 2 * count;
+    let len = w.len;
+    window_waves(rec, w, count, book, phases, angles, waves);
+    phases_after(rec, w.lead, phases, angles);
+    play(
         rec,
         w,
-        count,
         symbols,
-        book,
+        &waves[..parts],
         phases,
-        ahead,
-        angles,
-        waves,
-        samples,
+        &mut samples[..len],
     );
 }
 
@@ -220,7 +199,6 @@ fn show_windows(
     symbols: &[f64],
     book: &[f64],
     phases: &mut [f32],
-    ahead: &mut [f32],
     angles: &mut [f32],
     waves: &mut [f64],
     samples: &mut [f64],
@@ -230,18 +208,7 @@ fn show_windows(
     let mut k = 0;
     while k < 3 {
         let w = window_of(k, last);
-        show_window(
-            rec,
-            nc,
-            w,
-            symbols,
-            book,
-            phases,
-            ahead,
-            angles,
-            waves,
-            samples,
-        );
+        show_window(rec, nc, w, symbols, book, phases, angles, waves, samples);
         k += 1;
     }
 }
@@ -252,7 +219,6 @@ fn audio_500_4(book: &[f64])
 {
     let mut symbols = [0.0; 1608];
     let mut phases = [0.0f32; 2];
-    let mut ahead = [0.0f32; 2];
     let mut angles = [0.0f32; 8000];
     let mut waves = [0.0; 16000];
     let mut samples = [0.0; 4000];
@@ -269,7 +235,6 @@ fn audio_500_4(book: &[f64])
         &symbols,
         book,
         &mut phases,
-        &mut ahead,
         &mut angles,
         &mut waves,
         &mut samples,
@@ -282,7 +247,6 @@ fn audio_500_6(book: &[f64])
 {
     let mut symbols = [0.0; 2304];
     let mut phases = [0.0f32; 3];
-    let mut ahead = [0.0f32; 3];
     let mut angles = [0.0f32; 12000];
     let mut waves = [0.0; 24000];
     let mut samples = [0.0; 4000];
@@ -299,7 +263,6 @@ fn audio_500_6(book: &[f64])
         &symbols,
         book,
         &mut phases,
-        &mut ahead,
         &mut angles,
         &mut waves,
         &mut samples,

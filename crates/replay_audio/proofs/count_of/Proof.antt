@@ -5,10 +5,10 @@ use Rattle.replay_audio.proofs.count_of.Statement.{statement}
 use Rattle.replay_audio.proofs.count_of.Tie as tie
 
 mul-result : tie.Need-mul-result
-mul-result c = omega (arith, mul-le-mul-left (c .before .args .nc) (c .before .pre .1 .most))
+mul-result c = omega (arith, mul-le-mul-left (c .before .args .nc) (c .before .pre .1 .len-most))
 
 returns : tie.Need-returns
-returns c = mul-le-mul-left _ (c .before .pre .1 .most)
+returns c = mul-le-mul-left _ (c .before .pre .1 .len-most)
 
 pub count-of-spec : {M : Type 1} → statement M
 count-of-spec = tie.close (tie.spec mul-result returns)

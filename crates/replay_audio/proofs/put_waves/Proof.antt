@@ -1,4 +1,4 @@
--- `replay_audio::put_waves` is safe: every entry is below 3,000, and the waves are twice the phases. Assumes nothing.
+-- `replay_audio::put_waves` is safe: every entry is below 3,000, and there is room for the waves. Assumes nothing.
 use Prim.Native.Nat.{_-_, _≤_}
 use mathlib.Core.Path.{_≡_}
 use lib.ListN.{length}
@@ -8,10 +8,10 @@ use Rattle.replay_audio.proofs.put_waves.Statement.{statement}
 use Rattle.replay_audio.proofs.put_waves.Tie as tie
 
 abbrev Inv-loop : tie.InvT-loop
-Inv-loop book angles waves₀ i₀ waves i = (i ≤ length angles) × (length waves ≡ length waves₀)
+Inv-loop book count angles waves₀ i₀ waves i = (i ≤ count) × (length waves ≡ length waves₀)
 
 abbrev μ-loop : tie.MeasureT-loop
-μ-loop book angles waves₀ i₀ waves i = length angles - i
+μ-loop book count angles waves₀ i₀ waves i = count - i
 
 loop-holds : tie.Need-loop-holds Inv-loop μ-loop
 loop-holds c = search needs

@@ -8,11 +8,11 @@ use Rattle.replay_audio.proofs.show_windows.Statement.{statement}
 use Rattle.replay_audio.proofs.show_windows.Tie as tie
 
 abbrev Inv-loop : tie.InvT-loop
-Inv-loop rec nc last symbols book phases₀ ahead₀ angles₀ waves₀ samples₀ k₀ phases ahead angles waves samples k =
-    (k ≤ 3) × (length phases ≡ length phases₀) × (length ahead ≡ length ahead₀) × (length angles ≡ length angles₀) × (length waves ≡ length waves₀) × (length samples ≡ length samples₀)
+Inv-loop rec nc last symbols book phases₀ angles₀ waves₀ samples₀ k₀ phases angles waves samples k =
+    (k ≤ 3) × (length phases ≡ length phases₀) × (length angles ≡ length angles₀) × (length waves ≡ length waves₀) × (length samples ≡ length samples₀)
 
 abbrev μ-loop : tie.MeasureT-loop
-μ-loop rec nc last symbols book phases₀ ahead₀ angles₀ waves₀ samples₀ k₀ phases ahead angles waves samples k =
+μ-loop rec nc last symbols book phases₀ angles₀ waves₀ samples₀ k₀ phases angles waves samples k =
     3 - k
 
 loop-holds : tie.Need-loop-holds Inv-loop μ-loop
@@ -25,7 +25,7 @@ show-window-requires : tie.Need-show-window-requires Inv-loop μ-loop
 show-window-requires c κs = search needs
 
 add-k : tie.Need-add-k Inv-loop μ-loop
-add-k c = search needs
+add-k c = omega arith
 
 loop-less : tie.Need-loop-less Inv-loop μ-loop
 loop-less c = omega arith
@@ -44,9 +44,6 @@ same-length-3 c = search needs
 
 same-length-4 : tie.Need-same-length-4 Inv-loop μ-loop
 same-length-4 c = search needs
-
-same-length-5 : tie.Need-same-length-5 Inv-loop μ-loop
-same-length-5 c = search needs
 
 returns : tie.Need-returns Inv-loop μ-loop
 returns c = search needs
@@ -67,5 +64,4 @@ show-windows-spec =
     same-length-2
     same-length-3
     same-length-4
-    same-length-5
     returns)
