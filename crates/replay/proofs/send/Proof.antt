@@ -1,0 +1,90 @@
+-- `replay::send` is safe: the marker table has the layout's length, and the alphabet is two or four. Assumes nothing.
+use mathlib.Core.Logic.{⊎-elim}
+use borrow.Author.Needs.{needs}
+use Rattle.replay.proofs.send.Statement.{statement}
+use Rattle.replay.proofs.send.Tie as tie
+
+markers-requires : tie.Need-markers-requires
+markers-requires c κs = search needs
+
+phasors-requires : tie.Need-phasors-requires
+phasors-requires c κs = search needs
+
+bits-requires : tie.Need-bits-requires
+bits-requires c κs = search needs
+
+points-requires : tie.Need-points-requires
+points-requires c κs = ⊎-elim (λ w. search needs) (λ w. search needs) (c .before .before .before .before .before .before .before .before .before .before .before .before .before .if1 .came)
+
+modulate-requires : tie.Need-modulate-requires
+modulate-requires c κs = search needs
+
+enum-told : tie.Need-enum-told
+enum-told c = search needs
+
+enum-known-sent : tie.Need-enum-known-sent
+enum-known-sent c = search needs
+
+show-refusal-requires : tie.Need-show-refusal-requires
+show-refusal-requires c κs = search needs
+
+same-length : tie.Need-same-length
+same-length c = search needs
+
+same-length-2 : tie.Need-same-length-2
+same-length-2 c = search needs
+
+same-length-3 : tie.Need-same-length-3
+same-length-3 c = search needs
+
+same-length-4 : tie.Need-same-length-4
+same-length-4 c = search needs
+
+same-length-5 : tie.Need-same-length-5
+same-length-5 c = search needs
+
+returns : tie.Need-returns
+returns c = search needs
+
+same-length-6 : tie.Need-same-length-6
+same-length-6 c = search needs
+
+same-length-7 : tie.Need-same-length-7
+same-length-7 c = search needs
+
+same-length-8 : tie.Need-same-length-8
+same-length-8 c = search needs
+
+same-length-9 : tie.Need-same-length-9
+same-length-9 c = search needs
+
+same-length-10 : tie.Need-same-length-10
+same-length-10 c = search needs
+
+returns-2 : tie.Need-returns-2
+returns-2 c = search needs
+
+pub send-spec : {M : Type 1} → statement M
+send-spec =
+    tie.close
+    (tie.spec
+    markers-requires
+    phasors-requires
+    bits-requires
+    points-requires
+    modulate-requires
+    enum-told
+    enum-known-sent
+    show-refusal-requires
+    same-length
+    same-length-2
+    same-length-3
+    same-length-4
+    same-length-5
+    returns
+    same-length-6
+    same-length-7
+    same-length-8
+    same-length-9
+    same-length-10
+    returns-2)

@@ -1,0 +1,204 @@
+// Inputs of the programs that replay: tables, payloads and signals by a fixed rule, so that any other implementation can make them again.
+ghost use mathlib.Core.Path.{_≡_};
+ghost use Prim.Native.Nat.{_+_, _*_, _/_, _%_, _^_, _<_, _≤_};
+ghost use lib.ListN.{length};
+ghost use Rattle.level.specs.Rows.{IsLayout};
+ghost use Rattle.level.specs.Sized.{Sized};
+ghost use Rattle.level.specs.Lengths.{rowLength};
+use complex::Complex;
+use level::Layout;
+
+// The generator's next state, modulo 2^64: the product by halves of 32 bits.
+pub fn next(x: u64) -> u64
+    ensures { λ r. ⌜ r ≡ (x * 6364136223846793005 + 1442695040888963407) % 2 ^ 64 ⌝ }
+{
+    let high = x / 0x1_0000_0000;
+    let low = x % 0x1_0000_0000;
+    let cross = high * 0x4c95_7f2d % 0x1_0000_0000 + low * 0x5851_f42d % 0x1_0000_0000;
+    let upper = cross % 0x1_0000_0000 * 0x1_0000_0000;
+    let product = std::num::wrapping_add_u64(low * 0x4c95_7f2d, upper);
+    std::num::wrapping_add_u64(product, 1442695040888963407)
+}
+
+// A draw below m from a state: its upper 31 bits, modulo m.
+pub fn draw(x: u64, m: usize) -> usize
+    requires { ⌜ 0 < m ⌝ }
+    ensures { λ r. ⌜ (r ≡ x / 2 ^ 33 % m) × (r < m) ⌝ }
+{
+    (x / 0x2_0000_0000 % m as u64) as usize
+}
+
+// The turn book: 3,000 numbers of size 0.9999, each turned by -2π / 3000 from the one before.
+pub fn book(out: &mut [f64])
+    requires { ⌜ length (now out) ≡ 6000 ⌝ }
+{
+    let turn = Complex {
+        re: 0.9999978067553793,
+        im: -0.002094393571219374,
+    };
+    let mut z = Complex {
+        re: 0.9999,
+        im: 0.0,
+    };
+    let mut k = 0;
+    while k < 3000 {
+        complex::put(out, k, z);
+        z = complex::mul(z, turn);
+        k += 1;
+    }
+}
+
+// As many draws below `size` as there is room for; the generator's state after them.
+pub fn points(x: u64, size: usize, out: &mut [u8]) -> u64
+    requires { ⌜ (0 < size) × (size ≤ 256) ⌝ }
+{
+    let mut state = x;
+    let mut i = 0;
+    while i < out.len() {
+        state = next(state);
+        out[i] = draw(state, size) as u8;
+        i += 1;
+    }
+    state
+}
+
+pub fn bits(x: u64, out: &mut [u8]) -> u64 {
+    points(x, 2, out)
+}
+
+// As many phasors as there is room for, each an entry of the turn book.
+pub fn phasors(x: u64, book: &[f64], out: &mut [f64]) -> u64
+    requires { ⌜ length (now book) ≡ 6000 ⌝ }
+{
+    let mut state = x;
+    let mut i = 0;
+    while i < out.len() / 2 {
+        state = next(state);
+        complex::put(out, i, complex::get(book, draw(state, 3000)));
+        i += 1;
+    }
+    state
+}
+
+fn clear(out: &mut [u16]) {
+    let mut i = 0;
+    while i < out.len() {
+        out[i] = 0;
+        i += 1;
+    }
+}
+
+// Marker value i of a carrier: a draw from the i-th of as many equal parts of the frame as there are markers.
+fn value(l: Layout, i: usize, x: u64) -> usize
+    requires { ⌜ Sized l × (i < l .markers) ⌝ }
+    ensures { λ r. ⌜ (5 ≤ r) × (r + 4 ≤ l .spf) ⌝ }
+{
+    let q = (l.spf - 8) / l.markers;
+    5 + i * q + draw(x, q)
+}
+
+// Value v of carrier c at place i, and its flag.
+fn mark(l: Layout, c: usize, i: usize, v: usize, out: &mut [u16])
+    requires { ⌜ Sized l × (c < l .nc) × (i < l .markers) × (5 ≤ v) × (v + 4 ≤ l .spf) × (length (now out) ≡ l .nc * (l .markers + l .nsym)) ⌝ }
+{
+    out[c * l.markers + i] = v as u16;
+    out[l.nc * l.markers + (c * l.nsym + (v - 2))] = 1;
+}
+
+fn carrier_markers(l: Layout, c: usize, x: u64, out: &mut [u16]) -> u64
+    requires { ⌜ Sized l × (c < l .nc) × (length (now out) ≡ l .nc * (l .markers + l .nsym)) ⌝ }
+{
+    let mut state = x;
+    let mut i = 0;
+    while i < l.markers {
+        state = next(state);
+        mark(l, c, i, value(l, i, state), out);
+        i += 1;
+    }
+    state
+}
+
+// The marker table of a layout, carrier by carrier; the generator's state after it.
+pub fn markers(l: Layout, x: u64, out: &mut [u16]) -> u64
+    requires { ⌜ Sized l × (length (now out) ≡ l .nc * (l .markers + l .nsym)) ⌝ }
+{
+    clear(out);
+    let mut state = x;
+    let mut c = 0;
+    while c < l.nc {
+        state = carrier_markers(l, c, state, out);
+        c += 1;
+    }
+    state
+}
+
+// What carrier c brings to sample n: its row's symbol for 32 samples each, `lead` samples and its stagger late, turned to the carrier.
+fn carrier_part(
+    l: Layout,
+    rows: &[f64],
+    frames: usize,
+    book: &[f64],
+    lead: usize,
+    c: usize,
+    n: usize,
+) -> Complex
+    requires { ⌜ IsLayout l × (c < l .nc) × (frames ≤ 4) × (length (now rows) ≡ 2 * (l .nc * rowLength l frames)) × (length (now book) ≡ 6000) × (lead ≤ 2 ^ 32) × (n ≤ 2 ^ 32) ⌝ }
+{
+    let from = lead + level::stagger(l.nc, c) as usize;
+    if n < from {
+        return complex::zero();
+    }
+    let k = (n - from) / 32;
+    let len = level::row_len(l, frames);
+    if len <= k {
+        return complex::zero();
+    }
+    let turn = level::carrier_hz(l, c) * n as u64 % 3000;
+    let w = complex::conj(complex::get(book, turn as usize));
+    complex::mul(complex::get(rows, c * len + k), w)
+}
+
+// Sample n with no noise: the carriers' parts in order.
+fn sample(l: Layout, rows: &[f64], frames: usize, book: &[f64], lead: usize, n: usize) -> Complex
+    requires { ⌜ IsLayout l × (frames ≤ 4) × (length (now rows) ≡ 2 * (l .nc * rowLength l frames)) × (length (now book) ≡ 6000) × (lead ≤ 2 ^ 32) × (n ≤ 2 ^ 32) ⌝ }
+{
+    let mut z = complex::zero();
+    let mut c = 0;
+    while c < l.nc {
+        z = complex::add(z, carrier_part(l, rows, frames, book, lead, c, n));
+        c += 1;
+    }
+    z
+}
+
+// Noise between -8 and 8 from a state's upper 31 bits: 2^-31 of them times 16, less 8.
+fn noise(x: u64) -> f64 {
+    let upper = (x / 0x2_0000_0000) as u32;
+    upper as f64 * 0.0000000004656612873077393 * 16.0 - 8.0
+}
+
+// The samples that rows of symbols give, with noise on each part; the generator's state after them.
+pub fn signal(
+    l: Layout,
+    rows: &[f64],
+    frames: usize,
+    book: &[f64],
+    lead: usize,
+    x: u64,
+    out: &mut [f64],
+) -> u64
+    requires { ⌜ IsLayout l × (frames ≤ 4) × (length (now rows) ≡ 2 * (l .nc * rowLength l frames)) × (length (now book) ≡ 6000) × (lead ≤ 2 ^ 32) × (length (now out) ≤ 2 ^ 32) ⌝ }
+{
+    let mut state = x;
+    let mut n = 0;
+    while n < out.len() / 2 {
+        let z = sample(l, rows, frames, book, lead, n);
+        state = next(state);
+        let re = z.re + noise(state);
+        state = next(state);
+        let im = z.im + noise(state);
+        complex::put(out, n, Complex { re, im });
+        n += 1;
+    }
+    state
+}
