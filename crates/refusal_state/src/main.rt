@@ -1,5 +1,5 @@
 // Refused feeds against a receiver that holds a candidate: each answers its number, and leaves state and memory as they were.
-// The comparison can fail: the feeds that are accepted, printed as 0, say `different`, and so would a refused one that changed a field of the state or a number of the memory.
+// Both comparisons can fail: the feeds that are accepted, printed as 0, say `both different`, and a refused one that changed a field of the state or a number of the memory would say which.
 ghost use mathlib.Core.Path.{_≡_};
 ghost use Prim.Native.Nat.{_*_, _<_, _≤_};
 ghost use lib.ListN.{length};
@@ -7,7 +7,6 @@ ghost use lib.ListN.{length};
 mod kept;
 
 use hold::Held;
-use hold::Hold;
 use libc::STDOUT_FILENO;
 use psk::Sent;
 use refusal::Position;
@@ -15,19 +14,24 @@ use rx::FeedAnswer;
 use rx::OpenAnswer;
 use rx::State;
 
-fn show(n: u32, same: bool) {
+// An answer's number, 0 where the feed is accepted, and what is as it was.
+fn show(n: u32, state: bool, memory: bool) {
     io::print_decimal(STDOUT_FILENO, n as u64);
-    if same {
+    if state && memory {
         io::write_all(STDOUT_FILENO, b" same\n");
+    } else if state {
+        io::write_all(STDOUT_FILENO, b" memory different\n");
+    } else if memory {
+        io::write_all(STDOUT_FILENO, b" state different\n");
     } else {
-        io::write_all(STDOUT_FILENO, b" different\n");
+        io::write_all(STDOUT_FILENO, b" both different\n");
     }
 }
 
-fn show_answer(answer: FeedAnswer, same: bool) {
+fn show_answer(answer: FeedAnswer, state: bool, memory: bool) {
     match answer {
-        FeedAnswer::Accepted(_) => show(0, same),
-        FeedAnswer::Refused(q) => show(refusal::number(q), same),
+        FeedAnswer::Accepted(_) => show(0, state, memory),
+        FeedAnswer::Refused(q) => show(refusal::number(q), state, memory),
     }
 }
 
@@ -47,9 +51,10 @@ fn try_feed(
     let f = rx::feed(500, 4, markers, phasors, book, s, memory, at, samples);
     let state = f.state;
     let after = kept::numbers_of(state);
-    let same = replay_inputs::same(&numbers, &after) && kept::digest(memory) == digest;
+    let state_same = replay_inputs::same(&numbers, &after);
+    let memory_same = kept::digest(memory) == digest;
     let answer = f.answer;
-    show_answer(answer, same);
+    show_answer(answer, state_same, memory_same);
     state
 }
 
@@ -109,7 +114,7 @@ fn approach(
     s
 }
 
-// A turn book one entry short, and memory too short.
+// A turn book one entry short, memory too short, and a state of another record.
 fn refused_lent(
     markers: &[u16],
     phasors: &[f64],
@@ -121,25 +126,11 @@ fn refused_lent(
 {
     let mut few = [0.0; 4];
     let samples = [1.0; 8000];
+    let mut other = s;
+    other.rec = 5;
+    try_feed(markers, phasors, book, other, memory, 14546, &samples);
     let t = try_feed(markers, phasors, &book[0..5998], s, memory, 14546, &samples);
     try_feed(markers, phasors, book, t, &mut few, 14546, &samples)
-}
-
-// A state with a hold of 9, which no receiver has.
-fn refused_state(markers: &[u16], phasors: &[f64], book: &[f64], s: State, memory: &mut [f64]) {
-    let samples = [1.0; 8000];
-    let h = s.hold;
-    let block = h.block;
-    let best = h.best;
-    let hold = Hold {
-        hold: 9,
-        dead: h.dead,
-        block,
-        best,
-    };
-    let mut other = s;
-    other.hold = hold;
-    try_feed(markers, phasors, book, other, memory, 14546, &samples);
 }
 
 // 4,001 samples, a number one too high, a part that is no number, one above 2^20.
@@ -172,9 +163,7 @@ fn feeding(
 {
     let s = approach(markers, phasors, book, opened, memory, signal);
     let t = refused_lent(markers, phasors, book, s, memory);
-    refused_state(markers, phasors, book, t, memory);
     let u = refused_samples(markers, phasors, book, t, memory);
-    show_held(u);
     try_feed(
         markers,
         phasors,

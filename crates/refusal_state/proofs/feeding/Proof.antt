@@ -10,14 +10,8 @@ approach-requires c κs = search needs
 refused-lent-requires : tie.Need-refused-lent-requires
 refused-lent-requires c κs = search needs
 
-refused-state-requires : tie.Need-refused-state-requires
-refused-state-requires c κs = search needs
-
 refused-samples-requires : tie.Need-refused-samples-requires
 refused-samples-requires c κs = search needs
-
-show-held-requires : tie.Need-show-held-requires
-show-held-requires c κs = search needs
 
 sub-try-feed : tie.Need-sub-try-feed
 sub-try-feed c = search needs
@@ -26,13 +20,13 @@ part-try-feed-start : tie.Need-part-try-feed-start
 part-try-feed-start c = search needs
 
 part-try-feed-end : tie.Need-part-try-feed-end
-part-try-feed-end c = omega (arith, c .before .before .before .before .before .before .before .before .before .before .before .before .before .before .before .before .before .before .before .before .before .before .before .pre .1)
+part-try-feed-end c = omega (arith, c .before .before .before .before .before .before .before .before .before .before .before .before .before .before .before .before .before .before .pre .1)
 
 try-feed-requires : tie.Need-try-feed-requires
 try-feed-requires c κs = search needs
 
 same-length : tie.Need-same-length
-same-length c = omega (arith, c .before .memory5 .given, c .before .before .before .before .before .before .before .memory4 .given, c .before .before .before .before .before .before .before .before .before .before .before .memory3 .given, c .before .before .before .before .before .before .before .before .before .before .before .before .before .before .before .memory2 .given, c .before .before .before .before .before .before .before .before .before .before .before .before .before .before .before .before .before .before .before .memory .given)
+same-length c = omega (arith, c .before .memory4 .given, c .before .before .before .before .before .before .memory3 .given, c .before .before .before .before .before .before .before .before .before .before .memory2 .given, c .before .before .before .before .before .before .before .before .before .before .before .before .before .before .memory .given)
 
 returns : tie.Need-returns
 returns c = search needs
@@ -43,9 +37,7 @@ feeding-spec =
     (tie.spec
     approach-requires
     refused-lent-requires
-    refused-state-requires
     refused-samples-requires
-    show-held-requires
     sub-try-feed
     part-try-feed-start
     part-try-feed-end
