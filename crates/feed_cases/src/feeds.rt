@@ -65,6 +65,24 @@ fn is_refused(turn: usize, answer: FeedAnswer) -> bool {
     }
 }
 
+// An opened receiver, as a feed that released nothing would leave it.
+fn before_feeds(opened: State) -> FeedResult {
+    FeedResult {
+        state: opened,
+        answer: FeedAnswer::Accepted(Release::NoRelease),
+    }
+}
+
+fn nothing_fed() -> Progress
+    ensures { λ r. ⌜ (r .fed ≡ 0) × (r .logged ≡ 0) ⌝ }
+{
+    Progress {
+        fed: 0,
+        logged: 0,
+        as_told: true,
+    }
+}
+
 // A feed to the receiver that the one before left.
 fn feed_on(
     before: FeedResult,
@@ -127,15 +145,8 @@ fn feed_all(
 {
     let mut wrong = [1.0; 8000];
     wrong[7999] = 0.0 / 0.0;
-    let mut f = FeedResult {
-        state: opened,
-        answer: FeedAnswer::Accepted(Release::NoRelease),
-    };
-    let mut r = Progress {
-        fed: 0,
-        logged: 0,
-        as_told: true,
-    };
+    let mut f = before_feeds(opened);
+    let mut r = nothing_fed();
     let mut x = 2;
     let mut turn = 0;
     while turn < 40 {
@@ -147,15 +158,8 @@ fn feed_all(
         let refused = is_refused(turn, told);
         let from = 2 * r.fed;
         let to = from + 2 * len;
-        f = feed_on(
-            f,
-            markers,
-            phasors,
-            book,
-            memory,
-            1000 + r.fed as u64,
-            &signal[from..to],
-        );
+        let at = 1000 + r.fed as u64;
+        f = feed_on(f, markers, phasors, book, memory, at, &signal[from..to]);
         let answer = f.answer;
         r = noted(r, refused, answer, len, row);
         turn += 1;
