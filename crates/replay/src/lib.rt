@@ -24,17 +24,9 @@ pub fn show_refusal(r: Refusal) {
     end_line();
 }
 
-// The bits of a number; 0 for one that is none, whose bits are not fixed.
-fn bits_of(x: f64) -> u64 {
-    if x != x {
-        return 0;
-    }
-    f64::to_bits(x)
-}
-
 // A number's 64 bits in 16 hexadecimal digits.
 pub fn show(x: f64) {
-    io::print_hex(STDOUT_FILENO, bits_of(x), 16);
+    io::print_hex(STDOUT_FILENO, replay_inputs::bits_of(x), 16);
 }
 
 // One frame from the generator's seed 1: tables, payload and draws one after the other, then the rows.

@@ -1,4 +1,4 @@
-// Inputs of the programs that replay: tables, payloads and signals by a fixed rule, so that any other implementation can make them again.
+// Inputs of the programs that replay: tables, payloads and signals by a fixed rule, so that any other implementation can make them again. And how such programs compare.
 ghost use mathlib.Core.Path.{_≡_};
 ghost use Prim.Native.Nat.{_+_, _*_, _/_, _%_, _^_, _<_, _≤_};
 ghost use lib.ListN.{length};
@@ -6,7 +6,9 @@ ghost use Rattle.level.specs.Rows.{IsLayout};
 ghost use Rattle.level.specs.Sized.{Sized};
 ghost use Rattle.level.specs.Lengths.{rowLength};
 use complex::Complex;
+use level::Chosen;
 use level::Layout;
+use psk::Sent;
 
 // The generator's next state, modulo 2^64: the product by halves of 32 bits.
 pub fn next(x: u64) -> u64
@@ -201,4 +203,66 @@ pub fn signal(
         n += 1;
     }
     state
+}
+
+// Two frames of drawn bits as samples, 700 samples late.
+fn send(l: Layout, x: u64, markers: &[u16], phasors: &[f64], book: &[f64], out: &mut [f64]) -> Sent
+    requires { ⌜ IsLayout l × (l .nc * rowLength l 2 ≡ 1590) × (length (now book) ≡ 6000) × (length (now out) ≤ 2 ^ 32) ⌝ }
+{
+    let mut payload = [0u8; 1496];
+    let mut draws = [0u8; 20];
+    let mut rows = [0.0; 3180];
+    let y = bits(x, &mut payload);
+    let z = points(y, 2, &mut draws);
+    let sent = psk::modulate(500, 4, markers, phasors, 2, &payload, &draws, &mut rows);
+    signal(l, &rows, 2, book, 700, z, out);
+    sent
+}
+
+fn two_frames_in(
+    l: Layout,
+    turns: &mut [f64],
+    marks: &mut [u16],
+    turned: &mut [f64],
+    out: &mut [f64],
+) -> Sent
+    requires { ⌜ IsLayout l × (l .nc * (l .markers + l .nsym) ≡ 822) × (l .nc * rowLength l 2 ≡ 1590) × (length (now turns) ≡ 6000) × (length (now marks) ≡ 822) × (length (now out) ≤ 2 ^ 32) ⌝ }
+{
+    book(turns);
+    let x = markers(l, 1, marks);
+    let y = phasors(x, turns, turned);
+    send(l, y, marks, turned, turns, out)
+}
+
+// Two frames in the layout 500/4, from seed 1 on: the turn book, the marker table, the phasors, then payload, draws and signal.
+pub fn two_frames(turns: &mut [f64], marks: &mut [u16], turned: &mut [f64], out: &mut [f64]) -> Sent
+    requires { ⌜ (length (now turns) ≡ 6000) × (length (now marks) ≡ 822) × (length (now out) ≤ 2 ^ 32) ⌝ }
+{
+    let chosen = level::choose(500, 4);
+    match chosen {
+        Chosen::Psk(l) => two_frames_in(l, turns, marks, turned, out),
+        Chosen::Refused(f) => Sent::Refused(f),
+    }
+}
+
+// The bits of a number; those of any that is none are alike.
+pub fn bits_of(x: f64) -> u64 {
+    if x != x {
+        return 0x7ff8_0000_0000_0000;
+    }
+    f64::to_bits(x)
+}
+
+pub fn same(a: &[u64], b: &[u64]) -> bool {
+    if a.len() != b.len() {
+        return false;
+    }
+    let mut i = 0;
+    while i < a.len() {
+        if a[i] != b[i] {
+            return false;
+        }
+        i += 1;
+    }
+    true
 }

@@ -1,8 +1,8 @@
--- `replay::bits_of` is safe: a number that equals itself has bits. Assumes nothing.
-use Rattle.laws.specs.Order.{number-by}
+-- `replay_inputs::bits_of` is safe: what equals itself is a number. Assumes nothing.
 use borrow.Author.Needs.{needs}
-use Rattle.replay.proofs.bits_of.Statement.{statement}
-use Rattle.replay.proofs.bits_of.Tie as tie
+use Rattle.laws.specs.Order.{number-by}
+use Rattle.replay_inputs.proofs.bits_of.Statement.{statement}
+use Rattle.replay_inputs.proofs.bits_of.Tie as tie
 
 returns : tie.Need-returns
 returns c = search needs
