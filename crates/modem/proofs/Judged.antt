@@ -23,10 +23,10 @@ use Rattle.hold.specs.History.{Detection}
 use Rattle.rx.specs.declared.State.{State}
 use Rattle.rx.specs.Receiver.{Feed, fed}
 use Rattle.rx.specs.View.{view}
-use Rattle.rx.specs.Conditions.{spanEnd, otherLayout, wrongBook, wrongState, wrongSamples, wrongNumber, wrongParts}
+use Rattle.rx.specs.Conditions.{spanEnd, otherLayout, wrongBook, wrongState, wrongSamples, wrongFirst, wrongNumber, wrongParts}
 use Rattle.rx.specs.Feed.{Given, sampleFault, feedFault, feedOf, feedOutcome}
 use Rattle.rx.specs.Sound.{neither, equal-of, Sound, not-wrong}
-use Rattle.modem.specs.Ideal.{otherCall, wrongFirst, inputFault, judgement}
+use Rattle.modem.specs.Ideal.{otherCall, inputFault, judgement}
 
 -- a layout is what its bandwidth and record choose
 pub layout-same : (l k : Layout) → IsLayout l → IsLayout k → otherCall l k ≡ false → k ≡ l
@@ -56,7 +56,7 @@ wrong-is l k i j room s w r = go (otherCall l k) refl
     go false e = rw (layout-same l k i j e) (not-wrong l room s w r)
 
 fault-is : (l k : Layout) (g : Given) (room : ℕ) (s : State) → wrongState k room s ≡ otherCall l k → feedFault k g s room ≡ inputFault l (spanEnd (s .samples)) g k
-unfolding feedFault sampleFault inputFault wrongNumber wrongFirst
+unfolding feedFault sampleFault inputFault wrongNumber
 fault-is l k g room s e = rw e
 
 -- ---- a feed that meets no row
@@ -77,7 +77,7 @@ pub record Rows (l : Layout) (e : ℕ) (g : Given) (k : Layout) : Type 0 where
   pub soon : e + length (feedOf g .samples) ≤ 2 ^ 48
 
 rows-clear : (l : Layout) (e : ℕ) (g : Given) (k : Layout) → inputFault l e g k ≡ Clear → Rows l e g k
-unfolding inputFault wrongSamples wrongFirst feedOf
+unfolding inputFault wrongSamples feedOf
 rows-clear l e g k h =
     let n : ℕ = length (g .samples) in
     let r₀ = or-else-clear (tableFault k (g .markers) (g .phasors)) _ h in

@@ -1,9 +1,9 @@
 -- What follows from the opening and the accepted feeds alone (01, "Reading": "the feeds' samples joined, numbered from start, none trimmed, and each value of
 -- the filtered track made with the turn book of the feed that brought its last sample"). No track, no trim, no state. Definitions only.
-use Prim.Native.Nat.{ℕ, _+_, _-_, _/_, _^_}
-use mathlib.Core.Bool.{Bool, not, _||_, cond}
+use Prim.Native.Nat.{ℕ, _+_, _-_, _/_}
+use mathlib.Core.Bool.{Bool, cond}
 use mathlib.Core.List.{List, [], _∷_, _++_}
-use lib.Dec.{ltb, eqb}
+use lib.Dec.{ltb}
 use lib.ListN.{length, getD}
 use lib.Ieee.{Float}
 use Rattle.refusal.specs.declared.Refusal.the-variants as no
@@ -23,18 +23,14 @@ use Rattle.hold.specs.History.{Offer}
 use Rattle.search.specs.Chi.{chiAt}
 use Rattle.search.specs.Search.{evenUp, reach, searchCount, offersFrom}
 use Rattle.rx.specs.declared.SearchPlace.{SearchPlace}
-use Rattle.rx.specs.Conditions.{wrongBook, wrongSamples, wrongParts}
+use Rattle.rx.specs.Conditions.{otherNumbers, wrongBook, wrongSamples, wrongFirst, wrongParts}
 use Rattle.rx.specs.Receiver.{Carrier, Receiver, Feed}
 use Rattle.rx.specs.Feed.{Given, feedOf}
 
 -- ---- which feeds are accepted, by what they are given
 -- the call's bandwidth and record are not those of the opening
 unfoldable pub otherCall : Layout → Layout → Bool
-otherCall l k = not (eqb (l .bandwidth) (k .bandwidth)) || not (eqb (l .rec) (k .rec))
-
--- 19, where the samples end at e
-unfoldable pub wrongFirst : ℕ → ℕ → ℕ → Bool
-wrongFirst e number count = not (eqb number e) || ltb (2 ^ 48) (e + count)
+otherCall l k = otherNumbers k (l .bandwidth) (l .rec)
 
 -- rows 3 to 7 and 16 to 20, top to bottom, of a feed whose bandwidth and record choose k, to a receiver of layout l whose samples end at e: of 17 the call's layout
 unfoldable pub inputFault : Layout → ℕ → Given → Layout → Fault

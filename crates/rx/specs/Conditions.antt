@@ -41,9 +41,13 @@ wrongBook book = not (eqb (length book) 6000) || any (λ i. not (inRange (neg on
 abbrev pub outside : ℕ → Bool
 outside p = ltb (2 ^ 49) p
 
+-- a bandwidth and a record that are not the layout's
+abbrev pub otherNumbers : Layout → ℕ → ℕ → Bool
+otherNumbers l hz rec = not (eqb hz (l .bandwidth)) || not (eqb rec (l .rec))
+
 -- "the state's layout": its bandwidth and record are not the call's
 unfoldable pub otherLayout : Layout → State → Bool
-otherLayout l s = not (eqb (s .bandwidth) (l .bandwidth)) || not (eqb (s .rec) (l .rec))
+otherLayout l s = otherNumbers l (s .bandwidth) (s .rec)
 
 -- "hold not 8, dead not the layout's"
 unfoldable pub wrongHold : Layout → State → Bool
@@ -119,9 +123,12 @@ tooMany count = ltb 4000 count
 unfoldable pub wrongSamples : ℕ → Bool
 wrongSamples floats = not (eqb (floats % 2) 0) || tooMany (floats / 2)
 
--- 19: "first sample's number not the sample end, or end past 2^48"
+-- 19: "first sample's number not the sample end, or end past 2^48", where the samples end at e
+abbrev pub wrongFirst : ℕ → ℕ → ℕ → Bool
+wrongFirst e number count = not (eqb number e) || ltb (2 ^ 48) (e + count)
+
 unfoldable pub wrongNumber : Span → ℕ → ℕ → Bool
-wrongNumber samples number count = not (eqb number (spanEnd samples)) || ltb (2 ^ 48) (spanEnd samples + count)
+wrongNumber samples number count = wrongFirst (spanEnd samples) number count
 
 -- 2^20 as f64: the largest size of a part
 abbrev pub largest : Float
