@@ -9,19 +9,16 @@ use lib.Ieee.{Float, nan}
 use borrow.Author.Tests.{eqb-true, leb-true, ltb-false, not-false}
 use Rattle.refusal.specs.declared.Fault.the-variants.{Clear}
 use Rattle.refusal.specs.Any.{any}
+use Rattle.refusal.specs.Clear.{neither, clear-first}
 use Rattle.laws.specs.Tests.{inSize}
 use Rattle.level.specs.declared.Layout.{Layout}
+use Rattle.level.specs.Frames.{wrongFrames, frames-of}
 use Rattle.level.specs.Lengths.{rowLength, audioLength}
 use Rattle.level.specs.Rows.{IsLayout}
 use Rattle.nco.specs.Nco.{wrongPhases}
-use Rattle.nco.specs.Accepted.{neither, clear-first}
 use Rattle.audio.proofs.Reach.{and-snd}
-use Rattle.audio.specs.CarrierAudio.{wrongFrames, wrongBuffers, badPart, wrongSymbols, wrongWindow, waveBound, wrongWaves, audioFault}
+use Rattle.audio.specs.CarrierAudio.{wrongBuffers, badPart, wrongSymbols, wrongWindow, waveBound, wrongWaves, audioFault}
 use Rattle.audio.specs.Parts.{Ready}
-
-pub frames-few : (frames : ℕ) → wrongFrames frames ≡ false → frames ≤ 4
-unfolding wrongFrames
-frames-few frames h = leb-true frames 4 (and-snd (leb 1 frames) (leb frames 4) (not-false _ h))
 
 module _ (l : Layout) where
   pub buffers-are : (window : ℕ) (phases out : List Float) → wrongBuffers l window phases out ≡ false → (length phases ≡ l .nc) × (length out ≡ window)
@@ -67,7 +64,7 @@ sound-of l frames symbols place window waves phases out i h =
       ready =
           record {
             is-layout = i;
-            few = frames-few frames (a .0);
+            few = frames-of frames (a .0) .1;
             symbols-are = symbols-are l frames symbols (c .0);
             narrow = w .0;
             before-end = w .1;

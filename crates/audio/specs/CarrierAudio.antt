@@ -11,16 +11,13 @@ use Rattle.refusal.specs.declared.Fault.{Fault}
 use Rattle.refusal.specs.Outcome.{Outcome, answered, andThen, firstFault, judged}
 use Rattle.refusal.specs.Any.{any}
 use Rattle.laws.specs.Tests.{inSize}
+use Rattle.level.specs.Frames.{wrongFrames}
 use Rattle.level.specs.declared.Layout.{Layout}
 use Rattle.level.specs.Lengths.{rowLength, audioLength}
 use Rattle.nco.specs.declared.Answer.{Answer}
 use Rattle.nco.specs.Nco.{wrongPhases}
 use Rattle.nco.specs.WindowCall.{WindowCall}
 use Rattle.audio.specs.Audio.{lentWave, audioWindow}
-
--- 8: "frames not 1 to 4"
-unfoldable pub wrongFrames : ℕ → Bool
-wrongFrames frames = not (leb 1 frames && leb frames 4)
 
 -- 11: "an out or scratch buffer of wrong length": a phase for each carrier, and a sample for each place
 unfoldable pub wrongBuffers : Layout → ℕ → List Float → List Float → Bool

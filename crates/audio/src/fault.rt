@@ -7,19 +7,10 @@ ghost use lib.Ieee.{nan};
 ghost use Rattle.refusal.specs.Any.{any};
 ghost use Rattle.laws.specs.Tests.{inSize};
 ghost use Rattle.level.specs.Rows.{IsLayout};
-ghost use Rattle.audio.specs.CarrierAudio.{wrongFrames, badPart, wrongSymbols, wrongWindow, waveBound, wrongWaves, audioFault};
+ghost use Rattle.audio.specs.CarrierAudio.{badPart, wrongSymbols, wrongWindow, waveBound, wrongWaves, audioFault};
 use level::Layout;
 use refusal::Fault;
 use refusal::Refusal;
-
-fn wrong_frames(frames: u32) -> bool
-    ensures { λ r. ⌜ r ≡ wrongFrames frames ⌝ }
-{
-    if frames < 1 {
-        return true;
-    }
-    frames > 4
-}
 
 // What is at most 256 in size is finite too.
 fn bad_part(x: f64) -> bool
@@ -106,7 +97,7 @@ pub fn audio_fault(
     requires { ⌜ IsLayout l ⌝ }
     ensures { λ r. ⌜ r ≡ audioFault l frames (now (symbols .entry)) place window (now (waves .entry)) (now (phases .entry)) (now (out .entry)) ⌝ }
 {
-    if wrong_frames(frames) {
+    if level::wrong_frames(frames as usize) {
         return Fault::Met(Refusal::Frames);
     }
     if phases.len() != l.nc {

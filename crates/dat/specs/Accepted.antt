@@ -14,6 +14,7 @@ use Rattle.refusal.specs.declared.Fault.{Fault}
 use Rattle.refusal.specs.declared.Fault.the-variants.{Clear, Met}
 use Rattle.refusal.specs.Outcome.{firstOf, orElse}
 use Rattle.refusal.specs.Any.{any, any-below, any-false}
+use Rattle.refusal.specs.Clear.{clear-first, clear-both}
 use Rattle.level.specs.declared.Layout.{Layout}
 use Rattle.level.specs.Sized.{Sized}
 use Rattle.dat.specs.Tables.{value, flag, marked, wrongLength, wrongValue, badFlag, wrongFlag, wrongCount, wrongSize, markerFault, phasorFault, tableFault}
@@ -33,14 +34,6 @@ pub record Phasors (l : Layout) (phasors : List Float) : Type 0 where
   pub sizes-ok : wrongSize l phasors ≡ false
 
 -- ---- from the fault that is found to these records
-pub clear-first : (r : Refusal) (b : Bool) (rest : Fault) → firstOf r b rest ≡ Clear → (b ≡ false) × (rest ≡ Clear)
-clear-first r false rest h = (refl, h)
-clear-first r true rest h = (absurd (let z : _≡_ {A = ℕ} 0 1 = cc in omega arith), absurd (let z : _≡_ {A = ℕ} 0 1 = cc in omega arith))
-
-pub clear-both : (f g : Fault) → orElse f g ≡ Clear → (f ≡ Clear) × (g ≡ Clear)
-clear-both Clear g h = (refl, h)
-clear-both (Met r) g h = (h, absurd (let z : _≡_ {A = ℕ} 0 1 = cc in omega arith))
-
 pub markers-of : (l : Layout) (table : List ℕ) → Sized l → markerFault l table ≡ Clear → Markers l table
 unfolding markerFault
 markers-of l table z h =

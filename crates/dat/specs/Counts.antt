@@ -11,6 +11,7 @@ use lib.Dec.{eqb, ltb}
 use lib.ListN.{length, length-append, length-map}
 use borrow.Author.Tests.{eqb-true, eqb-false, eq-eqb, ne-eqb, ltb-false}
 use Rattle.refusal.specs.Any.{any, any-below}
+use Rattle.refusal.specs.Clear.{neither}
 use Rattle.level.specs.declared.Layout.{Layout}
 use Rattle.level.specs.Lengths.{cells}
 use Rattle.level.specs.Sized.{Sized}
@@ -119,11 +120,6 @@ count-values v (suc m) n inside once =
     other false x s d = ne-eqb x s (λ e. d (sym e))
 
 -- ---- an accepted table
-pub neither : (a b : Bool) → (a || b) ≡ false → (a ≡ false) × (b ≡ false)
-neither false false h = (refl, refl)
-neither false true h = (refl, h)
-neither true b h = (h, absurd (let z : _≡_ {A = ℕ} 0 1 = cc in omega arith))
-
 -- a value that condition 4 accepts
 pub record GoodValue (l : Layout) (table : List ℕ) (c k : ℕ) : Type 0 where
   pub from : 5 ≤ value l table c k

@@ -6,3 +6,4 @@ pub mod Tested
 pub mod Rows
 pub mod Sized
 pub mod Kept
+pub mod Frames

@@ -5,6 +5,7 @@ ghost use Rattle.level.specs.Layout.{stagger, greatestStagger, layoutOf,
 ghost use Rattle.level.specs.Even.{evenLevel, Sound};
 ghost use Rattle.level.specs.Lengths.{carrierHz, cells, rowLength, audioOf, audioLength, carrierAudioLength, memoryLength};
 ghost use Rattle.level.specs.Rows.{IsLayout};
+ghost use Rattle.level.specs.Frames.{wrongFrames};
 ghost use Rattle.level.specs.Kept.{share, keptCells};
 use refusal::Refusal;
 
@@ -138,6 +139,16 @@ pub fn cells(l: Layout) -> usize
     ensures { λ r. ⌜ r ≡ cells l ⌝ }
 {
     l.spf - 2 - l.markers
+}
+
+// Condition 8.
+pub fn wrong_frames(frames: usize) -> bool
+    ensures { λ r. ⌜ r ≡ wrongFrames frames ⌝ }
+{
+    if frames < 1 {
+        return true;
+    }
+    4 < frames
 }
 
 // The symbols of a carrier's row: 8 leads, the frames, a zero.

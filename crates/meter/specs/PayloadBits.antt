@@ -10,7 +10,7 @@ use Rattle.refusal.specs.declared.Refusal.{Refusal}
 use Rattle.refusal.specs.declared.Refusal.the-variants.{Buffer}
 use Rattle.refusal.specs.declared.Fault.{Fault}
 use Rattle.refusal.specs.Refusal.{numberOf}
-use Rattle.refusal.specs.Outcome.{Outcome, refused, answered, andThen, firstFault, judged}
+use Rattle.refusal.specs.Outcome.{Outcome, refused, answered, andThen, done, after, firstFault, judged}
 use Rattle.complex.specs.Lists.{tabulate}
 use Rattle.laws.specs.Tests.{signBit}
 use Rattle.level.specs.declared.Layout.{Layout}
@@ -34,14 +34,6 @@ bitsAccepted chosen soft out = andThen chosen (λ l. judged (bitsFault l soft ou
 abbrev pub outcome : Answer → Outcome Unit
 outcome Done = answered tt
 outcome (Refused r) = refused (numberOf r)
-
-abbrev pub done : {A : Type 0} → Outcome A → Outcome Unit
-done o = andThen o (λ a. answered tt)
-
--- what a lent buffer holds after a call: "After a refusal nothing lent has changed"
-abbrev pub after : {A B : Type 0} → Outcome A → (A → B) → B → B
-after (refused k) f b = b
-after (answered a) f b = f a
 
 pub record PayloadBits (chosen : Outcome Layout) (soft : List Float) (out : List ℕ) (r : Answer) (out-then : List ℕ) : Type 0 where
   pub answer : outcome r ≡ done (bitsAccepted chosen soft out)

@@ -13,6 +13,7 @@ use Rattle.refusal.specs.declared.Refusal.the-variants as no
 use Rattle.refusal.specs.declared.Fault.{Fault}
 use Rattle.refusal.specs.declared.Fault.the-variants.{Clear, Met}
 use Rattle.refusal.specs.Outcome.{Outcome, refused, answered, andThen, firstOf, orElse, judged, firstFault}
+use Rattle.refusal.specs.Clear.{neither, clear-first, clear-both}
 use Rattle.complex.specs.Pairs.{complexes-length}
 use Rattle.level.specs.declared.Layout.{Layout}
 use Rattle.level.specs.Lengths.{memoryLength}
@@ -25,7 +26,7 @@ use Rattle.rx.specs.Receiver.{Feed, fed}
 use Rattle.rx.specs.View.{view}
 use Rattle.rx.specs.Conditions.{spanEnd, otherLayout, wrongBook, wrongState, wrongSamples, wrongFirst, wrongNumber, wrongParts}
 use Rattle.rx.specs.Feed.{Given, sampleFault, feedFault, feedOf, feedOutcome}
-use Rattle.rx.specs.Sound.{neither, equal-of, Sound, not-wrong}
+use Rattle.rx.specs.Sound.{equal-of, Sound, not-wrong}
 use Rattle.modem.specs.Ideal.{otherCall, inputFault, judgement}
 
 -- a layout is what its bandwidth and record choose
@@ -60,17 +61,6 @@ unfolding feedFault sampleFault inputFault wrongNumber
 fault-is l k g room s e = rw e
 
 -- ---- a feed that meets no row
-met-clear {ℓ} : {X : Type ℓ} (r : Refusal) → Met r ≡ Clear → X
-met-clear r e = absurd (let z : _≡_ {A = ℕ} 0 1 = cc in omega arith)
-
-pub or-else-clear : (f g : Fault) → orElse f g ≡ Clear → g ≡ Clear
-or-else-clear Clear g e = e
-or-else-clear (Met r) g e = met-clear r e
-
-pub first-clear : (r : Refusal) (b : Bool) (rest : Fault) → firstOf r b rest ≡ Clear → (b ≡ false) × (rest ≡ Clear)
-first-clear r false rest e = (refl, e)
-first-clear r true rest e = met-clear r e
-
 pub record Rows (l : Layout) (e : ℕ) (g : Given) (k : Layout) : Type 0 where
   pub own : otherCall l k ≡ false
   pub few : length (feedOf g .samples) ≤ 4000
@@ -80,11 +70,11 @@ rows-clear : (l : Layout) (e : ℕ) (g : Given) (k : Layout) → inputFault l e 
 unfolding inputFault wrongSamples feedOf
 rows-clear l e g k h =
     let n : ℕ = length (g .samples) in
-    let r₀ = or-else-clear (tableFault k (g .markers) (g .phasors)) _ h in
-    let r₁ = first-clear no.TurnBook (wrongBook (g .book)) _ r₀ in
-    let r₂ = first-clear no.State (otherCall l k) _ (r₁ .1) in
-    let r₃ = first-clear no.SampleCount (wrongSamples n) _ (r₂ .1) in
-    let r₄ = first-clear no.SampleNumber (wrongFirst e (g .number) (n / 2)) _ (r₃ .1) in
+    let r₀ = clear-both (tableFault k (g .markers) (g .phasors)) _ h .1 in
+    let r₁ = clear-first no.TurnBook (wrongBook (g .book)) _ r₀ in
+    let r₂ = clear-first no.State (otherCall l k) _ (r₁ .1) in
+    let r₃ = clear-first no.SampleCount (wrongSamples n) _ (r₂ .1) in
+    let r₄ = clear-first no.SampleNumber (wrongFirst e (g .number) (n / 2)) _ (r₃ .1) in
     let u = neither (not (eqb (n % 2) 0)) (ltb 4000 (n / 2)) (r₃ .0) in
     let v = neither (not (eqb (g .number) e)) (ltb (2 ^ 48) (e + n / 2)) (r₄ .0) in
     record {

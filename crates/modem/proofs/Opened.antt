@@ -9,6 +9,7 @@ use Rattle.refusal.specs.declared.Refusal.the-variants as no
 use Rattle.refusal.specs.declared.Fault.{Fault}
 use Rattle.refusal.specs.declared.Fault.the-variants.{Clear, Met}
 use Rattle.refusal.specs.Outcome.{Outcome, refused, answered, andThen, judged}
+use Rattle.refusal.specs.Clear.{clear-first, clear-both}
 use Rattle.level.specs.declared.Layout.{Layout}
 use Rattle.level.specs.Lengths.{memoryLength}
 use Rattle.level.specs.Layout.{chosen}
@@ -22,7 +23,7 @@ use Rattle.rx.specs.Open.{openedState, startFault, openFault, openOutcome}
 use Rattle.modem.specs.Calls.{Calls}
 use Rattle.modem.specs.Follows.{OpenedAs, Follows}
 use Rattle.modem.proofs.Detections.{follows}
-use Rattle.modem.proofs.Judged.{or-else-clear, first-clear, refused-answered}
+use Rattle.modem.proofs.Judged.{refused-answered}
 
 pub opened-as : (hz rec : ℕ) (markers : List ℕ) (phasors : List Float) (start : ℕ) (book : List Float) (s : State)
     → openOutcome hz rec markers phasors start book ≡ answered s → OpenedAs hz rec start s
@@ -32,7 +33,7 @@ opened-as hz rec markers phasors start book s e = go (chosen hz rec) refl e
     with-fault : (l : Layout) → chosen hz rec ≡ answered l → (t : Fault) → openFault l markers phasors start book ≡ t → judged t (answered (openedState l start)) ≡ answered s → OpenedAs hz rec start s
     with-fault l c (Met r) u v = refused-answered _ s v
     with-fault l c Clear u v =
-        let r = first-clear no.Start (wrongStart start) _ (or-else-clear (tableFault l markers phasors) _ u) in
+        let r = clear-first no.Start (wrongStart start) _ (clear-both (tableFault l markers phasors) _ u .1) in
         let q : openedState l start ≡ s = cc in
         record { layout = l; is-one = is-layout hz rec l c; chosen-is = c; state = sym q; early = ltb-false (2 ^ 40) start (r .0) }
 

@@ -9,7 +9,7 @@ use lib.Ieee.{Float}
 use Rattle.refusal.specs.declared.Refusal.the-variants as no
 use Rattle.refusal.specs.declared.Fault.{Fault}
 use Rattle.refusal.specs.Refusal.{numberOf}
-use Rattle.refusal.specs.Outcome.{Outcome, refused, answered, andThen, firstFault, orElse, judged}
+use Rattle.refusal.specs.Outcome.{Outcome, refused, answered, andThen, firstFault, orElse, judged, after}
 use Rattle.level.specs.declared.Layout.{Layout}
 use Rattle.level.specs.Layout.{chosen}
 use Rattle.dat.specs.Tables.{tableFault}
@@ -23,7 +23,7 @@ use Rattle.nco.specs.Nco.{NcoPhase}
 use Rattle.audio.specs.CarrierAudio.{CarrierAudio}
 use Rattle.meter.specs.declared.Answer as bits
 use Rattle.meter.specs.PayloadBits as payload
-use Rattle.meter.specs.PayloadBits.{PayloadBits, after}
+use Rattle.meter.specs.PayloadBits.{PayloadBits}
 use Rattle.meter.specs.Meter.{metered}
 use Rattle.hold.specs.declared.Hold.{Hold}
 use Rattle.hold.specs.declared.Candidate.{Candidate}

@@ -13,7 +13,7 @@ use Rattle.refusal.specs.declared.Refusal.{Refusal}
 use Rattle.refusal.specs.declared.Fault.{Fault}
 use Rattle.refusal.specs.declared.Fault.the-variants.{Clear, Met}
 use Rattle.refusal.specs.Refusal.{numberOf}
-use Rattle.refusal.specs.Outcome.{Outcome, refused, answered, andThen, orElse, judged}
+use Rattle.refusal.specs.Outcome.{Outcome, refused, answered, andThen, after, orElse, judged}
 use Rattle.level.specs.declared.Layout.{Layout}
 use Rattle.level.specs.Layout.{layoutOf, chosen}
 use Rattle.level.specs.Rows.{IsLayout, is-layout, at-most}
@@ -29,7 +29,6 @@ use Rattle.rx.specs.declared.FeedAnswer.{FeedAnswer}
 use Rattle.rx.specs.declared.FeedAnswer.the-variants.{Accepted, Refused}
 use Rattle.rx.specs.Open.{openedState, startFault}
 use Rattle.rx.specs.Feed.{Given, Left}
-use Rattle.meter.specs.PayloadBits.{after}
 use Rattle.modem_c.specs.Numbers.{narrow, position, holdAt, stateAt, stateOf, holdNumbers, heldMetric, numbersOf, metricOf}
 use Rattle.modem_c.specs.Calls.{LentState, lentState, LentRelease, feedRelease, FeedCall, lengthFault, openedInto, OpenCall, candidateOf, Offers, OfferCall}
 use Rattle.modem_c.specs.Round.{hold-round, state-round}

@@ -12,18 +12,9 @@ use Rattle.refusal.specs.declared.Refusal.{Refusal}
 use Rattle.refusal.specs.declared.Fault.{Fault}
 use Rattle.refusal.specs.declared.Fault.the-variants.{Clear}
 use Rattle.refusal.specs.Outcome.{firstOf}
+use Rattle.refusal.specs.Clear.{neither, clear-first}
 use Rattle.level.specs.declared.Layout.{Layout}
 use Rattle.nco.specs.Nco.{wrongBuffers, ncoFault}
-
--- neither of two conditions
-pub neither : (a b : Bool) → (a || b) ≡ false → (a ≡ false) × (b ≡ false)
-neither false b h = (refl, h)
-neither true b h = absurd (let z : _≡_ {A = ℕ} 0 1 = cc in omega arith)
-
--- neither a row's condition nor those below it
-pub clear-first : (r : Refusal) (b : Bool) (rest : Fault) → firstOf r b rest ≡ Clear → (b ≡ false) × (rest ≡ Clear)
-clear-first r false rest h = (refl, h)
-clear-first r true rest h = absurd (let z : _≡_ {A = ℕ} 0 1 = cc in omega arith)
 
 pub lengths-of : (l : Layout) (window : ℕ) (phases out : List Float) → ncoFault l window phases out ≡ Clear
     → (length phases ≡ l .nc) × (length out ≡ l .nc * window)

@@ -8,7 +8,7 @@ use Rattle.refusal.specs.declared.Refusal.{Refusal}
 use Rattle.refusal.specs.declared.Fault.{Fault}
 use Rattle.refusal.specs.declared.Fault.the-variants.{Clear, Met}
 use Rattle.refusal.specs.Refusal.{numberOf}
-use Rattle.refusal.specs.Outcome.{Outcome, refused, answered, andThen, judged}
+use Rattle.refusal.specs.Outcome.{Outcome, refused, answered, andThen, done, after, judged}
 use Rattle.level.specs.declared.Layout.{Layout}
 use Rattle.nco.specs.declared.Answer.{Answer}
 use Rattle.nco.specs.declared.Answer.the-variants.{Done, Refused}
@@ -18,14 +18,6 @@ use Rattle.nco.specs.Phase.{phasesAfter}
 abbrev pub outcome : Answer → Outcome Unit
 outcome Done = answered tt
 outcome (Refused r) = refused (numberOf r)
-
-abbrev pub done : {A : Type 0} → Outcome A → Outcome Unit
-done o = andThen o (λ a. answered tt)
-
--- what a lent buffer holds after a call: "After a refusal nothing lent has changed"
-abbrev pub after : {A B : Type 0} → Outcome A → (A → B) → B → B
-after (refused k) f b = b
-after (answered a) f b = f a
 
 -- `accepted` is the layout of a call that meets no fault, or its refusal; `out-of` is what out then holds
 pub record WindowCall (accepted : Outcome Layout) (window : ℕ) (phases out : List Float) (out-of : Layout → List Float) (r : Answer) (phases-then out-then : List Float) : Type 0 where

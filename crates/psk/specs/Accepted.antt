@@ -12,16 +12,17 @@ use Rattle.refusal.specs.declared.Fault.{Fault}
 use Rattle.refusal.specs.declared.Fault.the-variants.{Clear, Met}
 use Rattle.refusal.specs.Outcome.{Outcome, refused, answered, andThen, judged}
 use Rattle.refusal.specs.Any.{any, any-at, any-below}
+use Rattle.refusal.specs.Clear.{neither, clear-first, clear-both}
 use Rattle.level.specs.declared.Layout.{Layout}
 use Rattle.level.specs.Lengths.{rowLength}
 use Rattle.level.specs.Layout.{chosen}
 use Rattle.level.specs.Rows.{IsLayout, is-layout}
 use Rattle.level.specs.Sized.{sized}
 use Rattle.dat.specs.Tables.{marked, tableFault}
-use Rattle.dat.specs.Counts.{neither}
-use Rattle.dat.specs.Accepted.{Markers, Phasors, clear-first, clear-both, tables-of}
+use Rattle.level.specs.Frames.{wrongFrames, frames-of}
+use Rattle.dat.specs.Accepted.{Markers, Phasors, tables-of}
 use Rattle.psk.specs.Symbols.{Sending, rowsOf}
-use Rattle.psk.specs.Send.{wrongFrames, wrongBytes, wrongPayload, wrongDraws, wrongRows, senderFault, sendFault, sentIn, modulated}
+use Rattle.psk.specs.Send.{wrongBytes, wrongPayload, wrongDraws, wrongRows, senderFault, sendFault, sentIn, modulated}
 
 -- draws that condition 10 accepts
 pub record Draws (l : Layout) (frames : ℕ) (draws : List ℕ) : Type 0 where
@@ -101,12 +102,6 @@ module _ (count limit : ℕ) (bytes : List ℕ) where
       (eqb-true _ _ (not-false _ (s .0)), λ i g. leb-false limit _ (any-below (λ i. leb limit (getD bytes i 0)) (length bytes) i (s .1) g))
 
 -- ---- from no fault to these records
-pub frames-of : (frames : ℕ) → wrongFrames frames ≡ false → (1 ≤ frames) × (frames ≤ 4)
-unfolding wrongFrames
-frames-of frames h =
-    let s = neither (ltb frames 1) (ltb 4 frames) h in
-    (ltb-false _ _ (s .0), ltb-false _ _ (s .1))
-
 pub rows-of : (l : Layout) (frames room : ℕ) → wrongRows l frames room ≡ false → room ≡ 2 * (l .nc * rowLength l frames)
 unfolding wrongRows
 rows-of l frames room h = eqb-true _ _ (not-false _ h)

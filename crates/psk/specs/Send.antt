@@ -12,16 +12,13 @@ use Rattle.refusal.specs.Refusal.{numberOf}
 use Rattle.refusal.specs.Outcome.{Outcome, refused, answered, andThen, firstFault, orElse, judged}
 use Rattle.refusal.specs.Any.{any}
 use Rattle.level.specs.declared.Layout.{Layout}
+use Rattle.level.specs.Frames.{wrongFrames}
 use Rattle.level.specs.Layout.{chosen}
 use Rattle.level.specs.Lengths.{rowLength}
 use Rattle.dat.specs.Tables.{tableFault}
 use Rattle.psk.specs.declared.Sent.{Sent}
 use Rattle.psk.specs.declared.Sent.the-variants.{Done, Refused}
 use Rattle.psk.specs.Symbols.{Sending, rowsOf}
-
--- 8: "frames not 1 to 4"
-unfoldable pub wrongFrames : ℕ → Bool
-wrongFrames frames = ltb frames 1 || ltb 4 frames
 
 -- bytes whose count is wrong, or one of which is not below the limit
 unfoldable pub wrongBytes : ℕ → ℕ → List ℕ → Bool

@@ -11,6 +11,7 @@ use lib.Ieee.Exact.{HasValue}
 use lib.Ieee.Scale.{finite}
 use lib.Ieee.Positive.{num, den, den-pos, through}
 use borrow.Author.Tests.{leb-true, leb-false, not-false}
+use Rattle.refusal.specs.Clear.{neither}
 use Rattle.laws.specs.Tests.{inRange}
 use Rattle.laws.specs.Sign.{round-neg}
 use Rattle.laws.specs.Plain.{plain, plain-finite, le-cross}
@@ -19,7 +20,6 @@ use Rattle.laws.specs.Operations.{square-is, add-finite, mul-finite, add-plain,
 use Rattle.complex.specs.declared.Complex.{Complex}
 use Rattle.complex.specs.Arithmetic.{cx, cmul, cconj, cscale, normSqr}
 use Rattle.dat.specs.Tables.{low, high, badPhasor}
-use Rattle.dat.specs.Counts.{neither}
 use Rattle.psk.specs.Symbols.{symbolScale, symbolOf}
 use Rattle.psk.specs.Turn.{one, nought, turnOf, Turn}
 use Rattle.laws.specs.Ranges.{in-range-finite}

@@ -7,7 +7,7 @@ ghost use Rattle.constellation.specs.Alphabet.{pointOf};
 ghost use Rattle.level.specs.Lengths.{rowLength};
 ghost use Rattle.level.specs.Rows.{IsLayout};
 ghost use Rattle.psk.specs.Symbols.{sending, symbolOf, leadSymbol, frameSymbol, inRows, rowSymbol, rowsOf};
-ghost use Rattle.psk.specs.Send.{wrongFrames, wrongBytes, wrongPayload, wrongDraws, senderFault, sendFault, SentIn, Modulated};
+ghost use Rattle.psk.specs.Send.{wrongBytes, wrongPayload, wrongDraws, senderFault, sendFault, SentIn, Modulated};
 ghost use Rattle.psk.specs.Running.{startOf, advanced};
 ghost use Rattle.psk.specs.Written.{written};
 ghost use Rattle.psk.specs.Accepted.{Drawn, LeadReady, FrameReady, CellReady, Ready};
@@ -27,16 +27,6 @@ pub enum Sent {
 struct Running {
     d: Complex,
     place: usize,
-}
-
-// Condition 8.
-fn wrong_frames(frames: usize) -> bool
-    ensures { λ r. ⌜ r ≡ wrongFrames frames ⌝ }
-{
-    if frames < 1 {
-        return true;
-    }
-    4 < frames
 }
 
 // Whether there are not `count` bytes, or one is not below the limit.
@@ -77,7 +67,7 @@ fn sender_fault(l: Layout, frames: usize, payload: &[u8], draws: &[u8], room: us
     requires { ⌜ IsLayout l ⌝ }
     ensures { λ r. ⌜ r ≡ senderFault l frames (now (payload .entry)) (now (draws .entry)) room ⌝ }
 {
-    if wrong_frames(frames) {
+    if level::wrong_frames(frames) {
         return Fault::Met(Refusal::Frames);
     }
     if wrong_payload(l, frames, payload) {

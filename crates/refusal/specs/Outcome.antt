@@ -18,6 +18,15 @@ abbrev pub andThen : {A B : Type 0} → Outcome A → (A → Outcome B) → Outc
 andThen (refused k) f = refused k
 andThen (answered a) f = f a
 
+-- the outcome of a call that answers no values
+abbrev pub done : {A : Type 0} → Outcome A → Outcome Unit
+done o = andThen o (λ a. answered tt)
+
+-- what a lent buffer holds after a call: "After a refusal nothing lent has changed"
+abbrev pub after : {A B : Type 0} → Outcome A → (A → B) → B → B
+after (refused k) f b = b
+after (answered a) f b = f a
+
 -- a row of the table for one call: the refusal, and whether its condition is met
 abbrev pub Check : Type 0
 Check = Refusal × Bool

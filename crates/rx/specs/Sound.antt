@@ -5,6 +5,7 @@ use mathlib.Core.Bool.{Bool, true, false, not, _||_}
 use native.Mathlib.Omega.{arith}
 use lib.Dec.{ltb, eqb}
 use borrow.Author.Tests.{ltb-false, le-ltb, eqb-true, eq-eqb, not-false}
+use Rattle.refusal.specs.Clear.{neither}
 use Rattle.level.specs.declared.Layout.{Layout}
 use Rattle.level.specs.Lengths.{memoryLength}
 use Rattle.track.specs.declared.Span.{Span}
@@ -50,10 +51,6 @@ pub record Sound (l : Layout) (s : State) : Type 0 where
   pub waits : Waits (s .search) (s .filtered .base .0) (s .hold .best)
 
 -- ---- tests in a row, none of which is met
-pub neither : (a b : Bool) → (a || b) ≡ false → (a ≡ false) × (b ≡ false)
-neither false b e = (refl, e)
-neither true b e = (e, absurd (let z : _≡_ {A = ℕ} 0 1 = cc in omega arith))
-
 clear : {a b : Bool} → a ≡ false → b ≡ false → (a || b) ≡ false
 clear p q = rw (p, q)
 

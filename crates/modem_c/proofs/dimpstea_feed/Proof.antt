@@ -13,11 +13,11 @@ use Rattle.refusal.specs.declared.Fault.{Fault}
 use Rattle.refusal.specs.declared.Fault.the-variants.{Clear, Met}
 use Rattle.refusal.specs.Refusal.{numberOf}
 use Rattle.refusal.specs.Outcome.{Outcome, refused, answered, andThen, judged}
+use Rattle.refusal.specs.Clear.{clear-first, clear-both}
 use Rattle.level.specs.declared.Layout.{Layout}
 use Rattle.level.specs.Layout.{layoutOf, chosen}
 use Rattle.level.specs.Rows.{IsLayout, is-layout, at-most}
 use Rattle.dat.specs.Tables.{tableFault}
-use Rattle.dat.specs.Accepted.{clear-first, clear-both}
 use Rattle.hold.specs.declared.Release.{Release}
 use Rattle.hold.specs.Releases.{released}
 use Rattle.rx.specs.declared.State.{State}

@@ -13,15 +13,15 @@ use Rattle.refusal.specs.declared.Fault.{Fault}
 use Rattle.refusal.specs.declared.Fault.the-variants.{Clear, Met}
 use Rattle.refusal.specs.Refusal.{numberOf}
 use Rattle.refusal.specs.Outcome.{Outcome, refused, answered, andThen, orElse, judged}
+use Rattle.refusal.specs.Clear.{neither, clear-first, clear-both}
 use Rattle.level.specs.declared.Layout.{Layout}
 use Rattle.level.specs.declared.Chosen.{Chosen}
 use Rattle.level.specs.declared.Chosen.the-variants as level
 use Rattle.level.specs.Layout as Level
 use Rattle.level.specs.Rows.{IsLayout, is-layout}
 use Rattle.level.specs.Sized.{sized}
-use Rattle.dat.specs.Counts.{neither}
 use Rattle.dat.specs.Tables.{tableFault}
-use Rattle.dat.specs.Accepted.{Markers, Phasors, clear-first, clear-both, tables-of}
+use Rattle.dat.specs.Accepted.{Markers, Phasors, tables-of}
 use Rattle.rx.specs.declared.State.{State}
 use Rattle.rx.specs.declared.FeedAnswer.the-variants.{Refused}
 use Rattle.rx.specs.Receiver.{fed}

@@ -10,6 +10,7 @@ use Rattle.refusal.specs.declared.Fault.{Fault}
 use Rattle.refusal.specs.declared.Fault.the-variants.{Clear, Met}
 use Rattle.refusal.specs.Refusal.{numberOf}
 use Rattle.refusal.specs.Outcome.{Outcome, refused, answered, andThen, judged}
+use Rattle.refusal.specs.Clear.{clear-first, clear-both}
 use Rattle.level.specs.declared.Layout.{Layout}
 use Rattle.level.specs.declared.Chosen.{Chosen}
 use Rattle.level.specs.declared.Chosen.the-variants.{Psk, Refused}
@@ -17,7 +18,6 @@ use Rattle.level.specs.Layout as Level
 use Rattle.level.specs.Rows.{is-layout}
 use Rattle.level.specs.Sized.{sized}
 use Rattle.dat.specs.Tables.{tableFault}
-use Rattle.dat.specs.Accepted.{clear-first, clear-both}
 use Rattle.rx.specs.declared.State.{State}
 use Rattle.rx.specs.Conditions.{wrongStart}
 use Rattle.rx.specs.Open.{openedState, startFault, openFault, openOutcome}

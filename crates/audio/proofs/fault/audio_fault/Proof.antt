@@ -11,8 +11,9 @@ use borrow.Author.Tests.{eq-eqb, ne-eqb}
 use Rattle.refusal.specs.declared.Refusal.the-variants.{Frames, Buffer, Symbols, Window, Waves}
 use Rattle.refusal.specs.declared.Fault.the-variants.{Clear, Met}
 use Rattle.level.specs.declared.Layout.{Layout}
-use Rattle.audio.specs.CarrierAudio.{wrongFrames, wrongBuffers, wrongSymbols, wrongWindow, wrongWaves, audioFault}
-use Rattle.audio.proofs.Accepted.{frames-few, window-is}
+use Rattle.level.specs.Frames.{wrongFrames, frames-of}
+use Rattle.audio.specs.CarrierAudio.{wrongBuffers, wrongSymbols, wrongWindow, wrongWaves, audioFault}
+use Rattle.audio.proofs.Accepted.{window-is}
 use Rattle.audio.proofs.fault.audio_fault.Statement.{statement}
 use Rattle.audio.proofs.fault.audio_fault.Tie as tie
 
@@ -71,13 +72,13 @@ returns-3 : tie.Need-returns-3
 returns-3 c = eleventh _ _ _ _ _ _ _ _ (sym (c .before .before .before .before .wrong-frames .ensures) ∙ c .before .before .before .if1 .left) (out-wrong _ _ _ _ (c .if3 .taken))
 
 wrong-symbols-requires : tie.Need-wrong-symbols-requires
-wrong-symbols-requires c κs = (c .before .before .before .before .before .before .before .before .before .pre, frames-few _ (sym (c .before .before .before .before .wrong-frames .ensures) ∙ c .before .before .before .if1 .left))
+wrong-symbols-requires c κs = (c .before .before .before .before .before .before .before .before .before .pre, frames-of _ (sym (c .before .before .before .before .wrong-frames .ensures) ∙ c .before .before .before .if1 .left) .1)
 
 returns-4 : tie.Need-returns-4
 returns-4 c = twelfth _ _ _ _ _ _ _ _ (sym (c .before .before .before .before .before .before .wrong-frames .ensures) ∙ c .before .before .before .before .before .if1 .left) (right _ _ _ _ (c .before .before .before .if2 .left) (c .before .before .if3 .left)) (sym (c .before .wrong-symbols .ensures) ∙ c .if4 .taken)
 
 wrong-window-requires : tie.Need-wrong-window-requires
-wrong-window-requires c κs = (c .before .before .before .before .before .before .before .before .before .before .before .pre, frames-few _ (sym (c .before .before .before .before .before .before .wrong-frames .ensures) ∙ c .before .before .before .before .before .if1 .left))
+wrong-window-requires c κs = (c .before .before .before .before .before .before .before .before .before .before .before .pre, frames-of _ (sym (c .before .before .before .before .before .before .wrong-frames .ensures) ∙ c .before .before .before .before .before .if1 .left) .1)
 
 returns-5 : tie.Need-returns-5
 returns-5 c = thirteenth _ _ _ _ _ _ _ _ (sym (c .before .before .before .before .before .before .before .before .wrong-frames .ensures) ∙ c .before .before .before .before .before .before .before .if1 .left) (right _ _ _ _ (c .before .before .before .before .before .if2 .left) (c .before .before .before .before .if3 .left)) (sym (c .before .before .before .wrong-symbols .ensures) ∙ c .before .before .if4 .left) (sym (c .before .wrong-window .ensures) ∙ c .if5 .taken)

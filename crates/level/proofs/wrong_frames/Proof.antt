@@ -1,8 +1,8 @@
--- `psk::wrong_frames` meets its contract: below 1, or above 4. Assumes nothing.
+-- `level::wrong_frames` meets its contract: below 1, or above 4. Assumes nothing.
 use borrow.Author.Tests.{lt-ltb, le-ltb}
-use Rattle.psk.specs.Send.{wrongFrames}
-use Rattle.psk.proofs.wrong_frames.Statement.{statement}
-use Rattle.psk.proofs.wrong_frames.Tie as tie
+use Rattle.level.specs.Frames.{wrongFrames}
+use Rattle.level.proofs.wrong_frames.Statement.{statement}
+use Rattle.level.proofs.wrong_frames.Tie as tie
 
 returns : tie.Need-returns
 unfolding wrongFrames
