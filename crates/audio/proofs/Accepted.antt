@@ -3,10 +3,10 @@ use Prim.Native.Nat.{ℕ, _+_, _*_, _≤_}
 use mathlib.Core.Path.{_≡_}
 use mathlib.Core.Bool.{false, not, _||_}
 use mathlib.Core.List.{List}
-use lib.Dec.{leb, ltb, eqb}
+use lib.Dec.{ltb, eqb}
 use lib.ListN.{length, getD}
 use lib.Ieee.{Float, nan}
-use borrow.Author.Tests.{eqb-true, leb-true, ltb-false, not-false}
+use borrow.Author.Tests.{eqb-true, ltb-false, not-false}
 use Rattle.refusal.specs.declared.Fault.the-variants.{Clear}
 use Rattle.refusal.specs.Any.{any}
 use Rattle.refusal.specs.Clear.{neither, clear-first}
@@ -16,7 +16,6 @@ use Rattle.level.specs.Frames.{wrongFrames, frames-of}
 use Rattle.level.specs.Lengths.{rowLength, audioLength}
 use Rattle.level.specs.Rows.{IsLayout}
 use Rattle.nco.specs.Nco.{wrongPhases}
-use Rattle.audio.proofs.Reach.{and-snd}
 use Rattle.audio.specs.CarrierAudio.{wrongBuffers, badPart, wrongSymbols, wrongWindow, waveBound, wrongWaves, audioFault}
 use Rattle.audio.specs.Parts.{Ready}
 

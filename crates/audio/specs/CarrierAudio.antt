@@ -1,8 +1,8 @@
 -- The open call `carrier_audio`: its conditions in 01's order, and its contract. Definitions only.
 use Prim.Native.Nat.{ℕ, _+_, _*_}
-use mathlib.Core.Bool.{Bool, not, _&&_, _||_}
+use mathlib.Core.Bool.{Bool, not, _||_}
 use mathlib.Core.List.{List, [], _∷_}
-use lib.Dec.{leb, ltb, eqb}
+use lib.Dec.{ltb, eqb}
 use lib.ListN.{length, getD}
 use lib.Ieee.{Float, nan, binary64, ofBits}
 use lib.Ieee.Scale.{finite}

@@ -1,12 +1,12 @@
 -- Lists made from a function of the index, and slices whose first entries are written by one.
 use Prim.Native.Nat.{ℕ, zero, suc, _+_, _-_, _<_, _≤_}
-use mathlib.Core.Path.{_≡_, refl, sym, ap, _∙_}
+use mathlib.Core.Path.{_≡_, refl, sym, _∙_}
 use mathlib.Core.List.{List, [], _∷_, _++_, append-assoc, append-nil}
 use mathlib.Core.Logic.{⊎-elim}
 use native.Mathlib.Omega.{arith}
 use native.Mathlib.Nat.{eq-or-lt-of-le, le-of-suc-le-suc}
 use native.Mathlib.Numerals.{add-one}
-use lib.ListN.{length, getD, take, drop, set, length-append, length-drop, List·getD-append}
+use lib.ListN.{length, getD, drop, set, length-append, length-drop, List·getD-append}
 use lib.Seq.{drop-cons, drop-length, set-at, getD-at, ext-getD}
 
 -- f 0, f 1, up to f (n - 1)

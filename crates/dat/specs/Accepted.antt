@@ -1,24 +1,21 @@
 -- What conditions 3 to 7 leave: tables that a call may read. Assumes nothing.
-use Prim.Native.Nat.{ℕ, zero, suc, _+_, _-_, _*_, _<_, _≤_}
-use mathlib.Core.Path.{_≡_, refl, sym, ap, _∙_}
-use mathlib.Core.Bool.{Bool, true, false, not, _||_, cond}
-use mathlib.Core.List.{List, [], _∷_}
+use Prim.Native.Nat.{ℕ, suc, _+_, _-_, _*_, _<_, _≤_}
+use mathlib.Core.Path.{_≡_, refl}
+use mathlib.Core.Bool.{true, false, cond}
+use mathlib.Core.List.{List}
 use native.Mathlib.Nat.{le-trans, mul-le-mul, mul-le-mul-right, mul-add, suc-mul}
 use native.Mathlib.Omega.{arith}
 use lib.Dec.{eqb}
 use lib.ListN.{length}
 use lib.Ieee.{Float}
 use borrow.Author.Tests.{eqb-true, not-false, eq-eqb, ne-eqb}
-use Rattle.refusal.specs.declared.Refusal.{Refusal}
-use Rattle.refusal.specs.declared.Fault.{Fault}
-use Rattle.refusal.specs.declared.Fault.the-variants.{Clear, Met}
-use Rattle.refusal.specs.Outcome.{firstOf, orElse}
+use Rattle.refusal.specs.declared.Fault.the-variants.{Clear}
 use Rattle.refusal.specs.Any.{any, any-below, any-false}
 use Rattle.refusal.specs.Clear.{clear-first, clear-both}
 use Rattle.level.specs.declared.Layout.{Layout}
 use Rattle.level.specs.Sized.{Sized}
 use Rattle.dat.specs.Tables.{value, flag, marked, wrongLength, wrongValue, badFlag, wrongFlag, wrongCount, wrongSize, markerFault, phasorFault, tableFault}
-use Rattle.dat.specs.Counts.{GoodValue, good-value}
+use Rattle.dat.specs.Counts.{good-value}
 
 -- a marker table that conditions 3 to 5 accept
 pub record Markers (l : Layout) (table : List ℕ) : Type 0 where

@@ -2,21 +2,21 @@
 use Prim.Native.Nat.{ℕ, zero, suc, _+_, _-_, _*_, _<_, _≤_}
 use mathlib.Core.Path.{_≡_, refl, sym, ap, _∙_}
 use mathlib.Core.Bool.{Bool, true, false, not, _||_, cond}
-use mathlib.Core.List.{List, [], _∷_, _++_, map}
+use mathlib.Core.List.{List, [], _∷_, map}
 use mathlib.Core.Logic.{⊎-elim}
-use native.Mathlib.Nat.{eq-or-lt-of-le, le-of-suc-le-suc, not-suc-le-zero, suc-mul}
+use native.Mathlib.Nat.{eq-or-lt-of-le, le-of-suc-le-suc, suc-mul}
 use native.Mathlib.Numerals.{add-one}
 use native.Mathlib.Omega.{arith}
 use lib.Dec.{eqb, ltb}
 use lib.ListN.{length, length-append, length-map}
-use borrow.Author.Tests.{eqb-true, eqb-false, eq-eqb, ne-eqb, ltb-false}
+use borrow.Author.Tests.{eq-eqb, ne-eqb, ltb-false}
 use Rattle.refusal.specs.Any.{any, any-below}
 use Rattle.refusal.specs.Clear.{neither}
 use Rattle.level.specs.declared.Layout.{Layout}
 use Rattle.level.specs.Lengths.{cells}
 use Rattle.level.specs.Sized.{Sized}
 use Rattle.dat.specs.Tables.{value, marked, badValue, wrongValue}
-use Rattle.dat.specs.Cells.{symbolsWhere, marksOf, cellsOf, Cell, cellAt, byCarrier}
+use Rattle.dat.specs.Cells.{symbolsWhere, marksOf, cellsOf, cellAt, byCarrier}
 
 -- ---- counting symbols
 -- 1 where the test holds, else 0

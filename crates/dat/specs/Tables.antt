@@ -1,6 +1,6 @@
 -- The marker table and the phasors (01, "Marks and cells"; dat.rs), and conditions 3 to 7, each a Bool of what is lent. Definitions only.
 use Prim.Native.Nat.{ℕ, _+_, _-_, _*_}
-use mathlib.Core.Bool.{Bool, _&&_, _||_, not, cond}
+use mathlib.Core.Bool.{Bool, _||_, not, cond}
 use mathlib.Core.List.{List, [], _∷_}
 use lib.Dec.{ltb, eqb}
 use lib.ListN.{length, getD}

@@ -8,11 +8,10 @@ use lib.Dec.{ltb, eqb}
 use lib.ListN.{length}
 use lib.Ieee.{Float}
 use borrow.Author.Tests.{ltb-false, eq-eqb}
-use Rattle.refusal.specs.declared.Refusal.{Refusal}
 use Rattle.refusal.specs.declared.Refusal.the-variants as no
 use Rattle.refusal.specs.declared.Fault.{Fault}
 use Rattle.refusal.specs.declared.Fault.the-variants.{Clear, Met}
-use Rattle.refusal.specs.Outcome.{Outcome, refused, answered, andThen, firstOf, orElse, judged, firstFault}
+use Rattle.refusal.specs.Outcome.{Outcome, refused, answered, andThen, orElse, judged, firstFault}
 use Rattle.refusal.specs.Clear.{neither, clear-first, clear-both}
 use Rattle.complex.specs.Pairs.{complexes-length}
 use Rattle.level.specs.declared.Layout.{Layout}

@@ -1,17 +1,13 @@
 -- What a call knows that has met no fault. Assumes nothing.
 use Prim.Native.Nat.{ℕ, _*_}
-use mathlib.Core.Path.{_≡_, refl}
-use mathlib.Core.Bool.{Bool, true, false, not, _||_}
+use mathlib.Core.Path.{_≡_}
+use mathlib.Core.Bool.{not}
 use mathlib.Core.List.{List}
-use native.Mathlib.Omega.{arith}
 use lib.Dec.{eqb}
 use lib.ListN.{length}
 use lib.Ieee.{Float}
 use borrow.Author.Tests.{eqb-true, not-false}
-use Rattle.refusal.specs.declared.Refusal.{Refusal}
-use Rattle.refusal.specs.declared.Fault.{Fault}
 use Rattle.refusal.specs.declared.Fault.the-variants.{Clear}
-use Rattle.refusal.specs.Outcome.{firstOf}
 use Rattle.refusal.specs.Clear.{neither, clear-first}
 use Rattle.level.specs.declared.Layout.{Layout}
 use Rattle.nco.specs.Nco.{wrongBuffers, ncoFault}

@@ -1,38 +1,33 @@
 -- The tracks that the samples' append and the filter leave, searched, are the receiver after the feed. Assumes nothing.
-use Prim.Native.Nat.{ℕ, _+_, _-_, _*_, _/_, _≤_, _<_}
-use mathlib.Core.Path.{_≡_, refl, sym, ap, ap₂, _∙_}
-use mathlib.Core.List.{List, []}
-use native.Mathlib.Nat.{le-trans}
+use Prim.Native.Nat.{ℕ, _+_, _-_, _*_, _≤_, _<_}
+use mathlib.Core.Path.{_≡_, sym, ap, ap₂, _∙_}
+use mathlib.Core.List.{List}
 use native.Mathlib.Omega.{arith}
-use lib.ListN.{length, getD}
+use lib.ListN.{length}
 use lib.Ieee.{Float}
-use Rattle.complex.specs.declared.Complex.{Complex}
 use Rattle.complex.specs.Lists.{tabulate, tabulate-ext, getD-tabulate}
 use Rattle.complex.specs.Pairs.{complexes, complexes-length}
 use Rattle.level.specs.declared.Layout.{Layout}
 use Rattle.level.specs.Rows.{IsLayout}
-use Rattle.level.specs.Sized.{Sized, sized}
+use Rattle.level.specs.Sized.{sized}
 use Rattle.track.specs.declared.Span.{Span}
-use Rattle.track.specs.Track.{Track, valueAt, append}
-use Rattle.track.specs.Window.{window}
+use Rattle.track.specs.Track.{Track, valueAt}
 use Rattle.track.specs.Memory.{partLength, samplesPart, filteredPart, stepPart, powerPart, trackIn}
-use Rattle.track.specs.Kept.{PartsKept, track-before, track-after}
-use Rattle.track.specs.Append.{spanAfter, Appended}
+use Rattle.track.specs.Kept.{track-before, track-after}
+use Rattle.track.specs.Append.{Appended}
 use Rattle.track.specs.Trims.{span-short}
 use Rattle.filter.specs.declared.Spans.{Spans}
-use Rattle.filter.specs.Filter.{filteredAt, stepAt, powerOf}
-use Rattle.filter.specs.Filtered.{filteredAfter, stepsAfter, powersAfter, CarrierFiltered, Filtered}
+use Rattle.filter.specs.Filtered.{filteredAfter, stepsAfter, powersAfter, Filtered}
 use Rattle.hold.specs.declared.Offered.{Offered}
 use Rattle.hold.specs.declared.Release.the-variants.{NoRelease}
 use Rattle.hold.specs.Releases.{holdAfter, releases}
-use Rattle.hold.specs.History.{Offer}
-use Rattle.search.specs.Chi.{Tables, chiAt}
-use Rattle.search.specs.Search.{searchCount, offersFrom}
-use Rattle.search.specs.Fits.{stepsIn, powersIn, offersIn, lastReleased, Searched}
+use Rattle.search.specs.Chi.{Tables}
+use Rattle.search.specs.Search.{offersFrom}
+use Rattle.search.specs.Fits.{offersIn, lastReleased, Searched}
 use Rattle.hold.specs.declared.Hold.{Hold}
 use Rattle.rx.specs.declared.SearchPlace.{SearchPlace}
 use Rattle.rx.specs.declared.State.{State}
-use Rattle.rx.specs.Receiver.{Carrier, emptyCarrier, Receiver, Feed, carrierOf, stepRow, powerRow, searchFrom, placeAfter, samplesAfter, carrierAfter, carriersAfter, offersOf, endBefore, endAfter, fed}
+use Rattle.rx.specs.Receiver.{Carrier, emptyCarrier, Receiver, Feed, carrierOf, placeAfter, samplesAfter, carrierAfter, carriersAfter, endBefore, endAfter, fed}
 use Rattle.rx.specs.View.{carrierIn, view}
 use Rattle.rx.specs.Conditions.{spanEnd}
 use Rattle.rx.specs.Sound.{Sound}

@@ -1,11 +1,10 @@
 -- Conditions 15 to 20 (01, "Where each fault is met"), each a Bool of what a call is given. Definitions only.
-use Prim.Native.Nat.{ℕ, _+_, _-_, _*_, _/_, _%_, _^_, max}
-use mathlib.Core.Bool.{Bool, true, false, not, _&&_, _||_}
-use mathlib.Core.List.{List, [], _∷_}
-use lib.Dec.{leb, ltb, eqb}
+use Prim.Native.Nat.{ℕ, _+_, _*_, _/_, _%_, _^_}
+use mathlib.Core.Bool.{Bool, true, false, not, _||_}
+use mathlib.Core.List.{List}
+use lib.Dec.{ltb, eqb}
 use lib.ListN.{length, getD}
 use lib.Ieee.{Float, nan, binary64, ofBits, neg}
-use Rattle.refusal.specs.declared.Position.{Position}
 use Rattle.refusal.specs.Any.{any}
 use Rattle.laws.specs.Tests.{inRange, inSize}
 use Rattle.level.specs.declared.Layout.{Layout}
@@ -13,7 +12,6 @@ use Rattle.level.specs.Lengths.{memoryLength}
 use Rattle.track.specs.declared.Span.{Span}
 pub use Rattle.track.specs.Append.{spanEnd}
 use Rattle.filter.specs.Filter.{filteredEnd}
-use Rattle.hold.specs.declared.Hold.{Hold}
 use Rattle.hold.specs.declared.Held.{Held}
 use Rattle.hold.specs.declared.Held.the-variants as held
 use Rattle.hold.specs.declared.Block.{Block}

@@ -1,5 +1,5 @@
 -- What an accepted feed does, step by step, and that it is what the feed's contract says. Assumes nothing.
-use Prim.Native.Nat.{ℕ, _+_, _-_, _*_, _/_, _≤_}
+use Prim.Native.Nat.{ℕ, _-_, _/_, _≤_}
 use mathlib.Core.Path.{_≡_, refl, sym, ap, _∙_, subst}
 use mathlib.Core.Bool.{false}
 use mathlib.Core.List.{List, []}
@@ -17,23 +17,22 @@ use Rattle.track.specs.declared.Span.{Span}
 use Rattle.filter.specs.declared.Spans.{Spans}
 use Rattle.hold.specs.declared.Offered.{Offered}
 use Rattle.hold.specs.declared.Release.{Release}
-use Rattle.hold.specs.History.{Detection}
 use Rattle.hold.specs.Releases.{released}
 use Rattle.search.specs.Chi.{Tables}
 use Rattle.search.specs.Search.{searchCount}
 use Rattle.dat.specs.Accepted.{Markers, Phasors}
 use Rattle.track.specs.Append.{spanAfter}
-use Rattle.search.specs.Fits.{offersIn, lastReleased, Searched}
+use Rattle.search.specs.Fits.{offersIn, Searched}
 use Rattle.rx.specs.declared.State.{State}
 use Rattle.rx.specs.declared.FeedAnswer.the-variants.{Accepted}
 use Rattle.rx.specs.declared.FeedResult.{FeedResult}
 use Rattle.rx.specs.declared.Tracks.{Tracks}
-use Rattle.rx.specs.Receiver.{Feed, fed}
+use Rattle.rx.specs.Receiver.{fed}
 use Rattle.rx.specs.View.{view}
 use Rattle.rx.specs.Conditions.{spanEnd, wrongState}
 use Rattle.rx.specs.Ready.{Ready}
 use Rattle.rx.specs.Feed.{Given, feedFault, feedOf, feedOutcome, FedBy}
-use Rattle.rx.specs.Sound.{Sound, sound}
+use Rattle.rx.specs.Sound.{sound}
 use Rattle.rx.specs.Numbers.{placeIn, endWith, countWith}
 use Rattle.rx.specs.Once.{once-released}
 use Rattle.rx.specs.Accept.{stateAfter, Tracked, accepted-view, accepted-release}

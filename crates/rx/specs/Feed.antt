@@ -1,28 +1,24 @@
 -- What the calls `open` and `feed` come to, refusals included. Definitions only.
-use Prim.Native.Nat.{ℕ, _+_, _*_, _/_}
+use Prim.Native.Nat.{ℕ, _/_}
 use mathlib.Core.Path.{_≡_}
-use mathlib.Core.Bool.{Bool, true, false}
 use mathlib.Core.List.{List, [], _∷_}
 use lib.ListN.{length}
 use lib.Ieee.{Float}
 use Rattle.refusal.specs.declared.Refusal.the-variants as no
 use Rattle.refusal.specs.declared.Fault.{Fault}
-use Rattle.refusal.specs.declared.Fault.the-variants.{Clear}
 use Rattle.refusal.specs.Refusal.{numberOf}
 use Rattle.refusal.specs.Outcome.{Outcome, refused, answered, andThen, firstFault, orElse, judged}
 use Rattle.complex.specs.Pairs.{complexes}
 use Rattle.level.specs.declared.Layout.{Layout}
 use Rattle.level.specs.Layout.{chosen}
 use Rattle.dat.specs.Tables.{tableFault}
-use Rattle.hold.specs.declared.Release.{Release}
 use Rattle.hold.specs.History.{Detection}
 use Rattle.hold.specs.Releases.{released}
-use Rattle.search.specs.Chi.{Tables}
 use Rattle.rx.specs.declared.State.{State}
 use Rattle.rx.specs.declared.FeedAnswer.{FeedAnswer}
 use Rattle.rx.specs.declared.FeedAnswer.the-variants.{Accepted, Refused}
-use Rattle.rx.specs.Receiver.{Receiver, Feed, fed}
-use Rattle.rx.specs.Conditions.{wrongStart, wrongBook, wrongState, wrongSamples, wrongNumber, wrongParts}
+use Rattle.rx.specs.Receiver.{Feed, fed}
+use Rattle.rx.specs.Conditions.{wrongBook, wrongState, wrongSamples, wrongNumber, wrongParts}
 use Rattle.rx.specs.View.{view}
 
 -- what a feed is given beside state and memory

@@ -1,6 +1,6 @@
 -- chi reads the cells of a frame and nothing else: rows that agree there have the same chi. Assumes nothing.
-use Prim.Native.Nat.{ℕ, zero, suc, _+_, _-_, _*_, _/_, _≤_, _<_, max}
-use mathlib.Core.Path.{_≡_, refl, sym, ap, ap₂, _∙_}
+use Prim.Native.Nat.{ℕ, zero, suc, _+_, _-_, _*_, _/_, _≤_, _<_}
+use mathlib.Core.Path.{_≡_, sym, ap, ap₂}
 use mathlib.Core.Bool.{Bool, true, false, not, cond}
 use mathlib.Core.List.{List, [], _∷_, _++_, map, append-assoc, append-nil}
 use native.Mathlib.Omega.{arith}
@@ -8,11 +8,10 @@ use native.Mathlib.Nat.{add-zero, add-suc}
 use lib.Dec.{leb}
 use lib.ListN.{length, getD}
 use lib.Ieee.{Float}
-use borrow.Author.Tests.{leb-true, leb-false, le-leb, lt-leb}
 use Rattle.complex.specs.declared.Complex.{Complex}
-use Rattle.complex.specs.Arithmetic.{czero, cmul, cconj, cscale}
+use Rattle.complex.specs.Arithmetic.{cmul}
 use Rattle.complex.specs.Lists.{tabulate, tabulate-ext}
-use Rattle.complex.specs.Sums.{sumTo, sum-ext}
+use Rattle.complex.specs.Sums.{sum-ext}
 use Rattle.level.specs.declared.Layout.{Layout}
 use Rattle.level.specs.Layout.{stagger}
 use Rattle.level.specs.Rows.{IsLayout}

@@ -1,7 +1,7 @@
 -- A state whose positions are at most 2^49: no sum of them wraps. Assumes nothing.
 use Prim.Native.Nat.{ℕ, _+_, _*_, _≤_, _^_}
 use mathlib.Core.Path.{_≡_}
-use mathlib.Core.Bool.{Bool, true, false, not, _||_}
+use mathlib.Core.Bool.{Bool, false, not, _||_}
 use lib.Dec.{eqb}
 use Rattle.refusal.specs.Clear.{neither}
 use Rattle.level.specs.declared.Layout.{Layout}

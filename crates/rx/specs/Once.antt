@@ -19,11 +19,9 @@ use Rattle.hold.specs.declared.Block.{Block}
 use Rattle.hold.specs.declared.Block.the-variants.{From}
 use Rattle.hold.specs.declared.Candidate.{Candidate}
 use Rattle.hold.specs.declared.Candidate.the-variants.{NoCandidate, Metric}
-use Rattle.hold.specs.declared.Release.{Release}
-use Rattle.hold.specs.declared.Release.the-variants.{NoRelease, Released}
 use Rattle.hold.specs.declared.Hold.{Hold}
 use Rattle.hold.specs.Offer.{blockNumber, atLeast, due, greater, taken, keeping, releasing, offeredAt, offered}
-use Rattle.hold.specs.History.{Offer, Detection, Each}
+use Rattle.hold.specs.History.{Offer, Each}
 use Rattle.hold.specs.Releases.{released, releases}
 use Rattle.search.specs.Search.{reach, offerOf, offersFrom}
 use Rattle.rx.specs.declared.SearchPlace.{SearchPlace}

@@ -1,16 +1,13 @@
 -- What an accepted feed meets: the append, the filter and the search all find what they ask for. Assumes nothing.
 use Prim.Native.Nat.{ℕ, _+_, _-_, _*_, _/_, _%_, _^_, _≤_, _<_, max}
 use mathlib.Core.Path.{_≡_, refl, sym, ap, ap₂, _∙_}
-use mathlib.Core.List.{List}
 use native.Mathlib.Nat.{le-trans, le-of-eq, lt-of-lt-of-le}
 use native.Mathlib.Omega.{arith}
-use lib.ListN.{length}
 use lib.Dec.{lit≤}
-use lib.Ieee.{Float}
 use Rattle.level.specs.declared.Layout.{Layout}
 use Rattle.level.specs.Lengths.{memoryLength}
 use Rattle.level.specs.Rows.{IsLayout}
-use Rattle.level.specs.Sized.{Sized, sized}
+use Rattle.level.specs.Sized.{sized}
 use Rattle.dat.specs.Accepted.{Markers, Phasors}
 use Rattle.track.specs.declared.Span.{Span}
 use Rattle.track.specs.Track.{trimmedBase}
@@ -21,8 +18,8 @@ use Rattle.filter.specs.Filtered.{FilterFits}
 use Rattle.hold.specs.declared.Held.{Held}
 use Rattle.hold.specs.declared.Held.the-variants as held
 use Rattle.search.specs.Chi.{Tables}
-use Rattle.search.specs.Search.{reach, searchCount}
-use Rattle.search.specs.Fits.{HeldBelow, HoldFits, Within, TrackFits, SearchFits}
+use Rattle.search.specs.Search.{reach}
+use Rattle.search.specs.Fits.{HeldBelow, TrackFits, SearchFits}
 use Rattle.rx.specs.declared.State.{State}
 use Rattle.rx.specs.declared.SearchPlace.{SearchPlace}
 use Rattle.rx.specs.declared.SearchPlace.the-variants.{Fresh, At}

@@ -1,6 +1,6 @@
 -- The search (01, "Search and hold": "`chi` at even positions in rising order as in `step`"). Definitions only.
-use Prim.Native.Nat.{ℕ, _+_, _-_, _*_, _/_, _%_, max}
-use mathlib.Core.List.{List, [], _∷_}
+use Prim.Native.Nat.{ℕ, _+_, _-_, _*_, _/_, _%_}
+use mathlib.Core.List.{List}
 use lib.Ieee.{Float}
 use Rattle.complex.specs.Lists.{tabulate}
 use Rattle.level.specs.declared.Layout.{Layout}

@@ -1,7 +1,6 @@
 -- `dat::bad_phasor` meets its contract: the tests in the order of the definition. Assumes nothing.
 use mathlib.Core.Path.{_≡_, refl, sym, ap, _∙_}
-use mathlib.Core.Bool.{Bool, true, false, not, _||_}
-use lib.Ieee.{Float}
+use mathlib.Core.Bool.{Bool, true, false, not}
 use lib.Ieee.Scale.{finite}
 use borrow.Author.Needs.{needs}
 use borrow.Author.Tests.{not-true, not-false}

@@ -1,11 +1,10 @@
 -- `dat::is_mark` meets its contract: symbols below 2 are never marked, and the flag of any other says whether it is. Assumes nothing.
-use Prim.Native.Nat.{ℕ, _+_, _-_, _*_, _/_, _<_, _≤_}
+use Prim.Native.Nat.{ℕ, _+_, _-_, _<_, _≤_}
 use mathlib.Core.Path.{_≡_, refl, sym, ap, _∙_}
 use mathlib.Core.Bool.{Bool, true, false, not, cond}
 use mathlib.Core.List.{List}
 use native.Mathlib.Omega.{arith}
 use lib.Dec.{eqb}
-use lib.ListN.{getD}
 use Rattle.level.specs.declared.Layout.{Layout}
 use Rattle.dat.specs.Tables.{flag, marked}
 use Rattle.dat.specs.Accepted.{Markers, InTable, flags-small, flag-in, flag-is, low-symbol}

@@ -1,12 +1,8 @@
 -- `dat::reference` meets its contract: the definition's own operations. Assumes nothing.
-use Prim.Native.Nat.{ℕ, _+_, _-_, _*_, _/_, _<_, _≤_}
-use mathlib.Core.Path.{_≡_, refl, sym, ap, ap₂, _∙_}
-use mathlib.Core.Bool.{Bool, true, false, not, cond}
-use mathlib.Core.List.{List}
+use Prim.Native.Nat.{_-_}
+use mathlib.Core.Path.{ap, ap₂, _∙_}
 use native.Mathlib.Nat.{le-of-lt, lt-of-le-of-lt, sub-le}
 use native.Mathlib.Omega.{arith}
-use lib.ListN.{length}
-use Rattle.complex.specs.declared.Complex.{Complex}
 use Rattle.complex.specs.Arithmetic.{cmul, cconj}
 use Rattle.dat.specs.Cells.{referenceOf}
 use Rattle.dat.specs.Accepted.{rows-small, phasor-in}

@@ -1,14 +1,13 @@
 -- `dat::select` meets its contract: each symbol passed stands in the slice where it is wanted. Assumes nothing.
-use Prim.Native.Nat.{ℕ, _+_, _-_, _*_, _/_, _<_, _≤_}
+use Prim.Native.Nat.{ℕ, _-_, _≤_}
 use mathlib.Core.Path.{_≡_, refl, sym, ap, _∙_, subst}
-use mathlib.Core.Bool.{Bool, true, false, not, cond}
-use mathlib.Core.List.{List}
+use mathlib.Core.Bool.{Bool}
 use native.Mathlib.Nat.{le-trans, le-of-eq, lt-of-lt-of-le}
 use native.Mathlib.Omega.{arith}
 use lib.ListN.{length}
 use Rattle.dat.specs.Tables.{marked}
-use Rattle.dat.specs.Cells.{symbolsWhere, picked}
-use Rattle.dat.specs.Select.{Gathered, gathered-none, gathered-length, room, gathered-more, gathered-all}
+use Rattle.dat.specs.Cells.{picked}
+use Rattle.dat.specs.Select.{Gathered, gathered-none, room, gathered-more, gathered-all}
 use borrow.Author.Needs.{needs}
 use Rattle.dat.proofs.select.Statement.{statement}
 use Rattle.dat.proofs.select.Tie as tie

@@ -1,14 +1,10 @@
 -- `dat::spread` meets its contract: entry i is that of `thin`. Assumes nothing.
-use Prim.Native.Nat.{ℕ, _+_, _-_, _*_, _/_, _<_, _≤_}
-use mathlib.Core.Path.{_≡_, refl, sym, ap, _∙_}
-use mathlib.Core.Bool.{Bool, true, false, not, cond}
-use mathlib.Core.List.{List}
+use Prim.Native.Nat.{ℕ, _-_, _*_, _/_, _≤_}
+use mathlib.Core.Path.{_≡_, refl, ap, _∙_}
 use native.Mathlib.Omega.{arith}
 use lib.ListN.{length, getD, length-set}
 use Rattle.complex.specs.Lists.{filled, filled-none, filled-step, filled-all}
-use Rattle.dat.specs.Cells.{thin}
 use Rattle.dat.specs.Select.{thin-is, thin-in, thin-small}
-use borrow.Author.Needs.{needs}
 use Rattle.dat.proofs.spread.Statement.{statement}
 use Rattle.dat.proofs.spread.Tie as tie
 

@@ -1,5 +1,5 @@
 -- `dat::table_fault` meets its contract: the marker table's fault, or else the phasors'. Assumes nothing.
-use mathlib.Core.Path.{_≡_, refl, sym, ap, _∙_}
+use mathlib.Core.Path.{_≡_, sym, ap, _∙_}
 use mathlib.Core.List.{List}
 use Prim.Native.Nat.{ℕ}
 use lib.Ieee.{Float}

@@ -1,8 +1,7 @@
 -- `rx::accept` meets its contract: the tracks, then the search over them. Assumes nothing.
-use Prim.Native.Nat.{ℕ, _+_, _-_, _*_, _/_, _≤_, _<_, _^_}
-use mathlib.Core.Path.{_≡_, refl, sym, ap, ap₂, _∙_, subst}
+use Prim.Native.Nat.{ℕ, _+_, _-_, _/_}
+use mathlib.Core.Path.{_≡_, sym, ap, ap₂, _∙_, subst}
 use mathlib.Core.List.{List}
-use native.Mathlib.Omega.{arith}
 use lib.ListN.{length}
 use lib.Ieee.{Float}
 use Rattle.level.specs.declared.Layout.{Layout}
@@ -15,7 +14,7 @@ use Rattle.rx.specs.declared.Tracks.{Tracks}
 use Rattle.rx.specs.Conditions.{spanEnd}
 use Rattle.rx.specs.Numbers.{endWith}
 use Rattle.rx.specs.Ready.{Ready}
-use Rattle.rx.specs.Fed.{FollowedBy, SearchOnFits, SearchedOn, AcceptedBy, accepted}
+use Rattle.rx.specs.Fed.{FollowedBy, SearchOnFits, accepted}
 use borrow.Author.Needs.{needs}
 use Rattle.rx.proofs.accept.Statement.{statement}
 use Rattle.rx.proofs.accept.Tie as tie

@@ -1,9 +1,8 @@
 -- `rx::feed` meets its contract: the layout's refusal, or the first fault of the rest, or the accepted feed. Assumes nothing.
-use Prim.Native.Nat.{ℕ, _+_, _-_, _*_, _/_, _%_, _≤_}
-use mathlib.Core.Path.{_≡_, refl, sym, ap, ap₂, _∙_, subst}
+use Prim.Native.Nat.{ℕ, _-_, _/_, _%_, _≤_}
+use mathlib.Core.Path.{_≡_, refl, sym, ap, _∙_}
 use mathlib.Core.Bool.{false, not}
 use mathlib.Core.List.{List}
-use native.Mathlib.Omega.{arith}
 use lib.ListN.{length}
 use lib.Ieee.{Float}
 use lib.Dec.{eqb}
@@ -26,7 +25,7 @@ use Rattle.rx.specs.declared.State.{State}
 use Rattle.rx.specs.declared.FeedAnswer.the-variants.{Refused}
 use Rattle.rx.specs.Receiver.{fed}
 use Rattle.rx.specs.View.{view}
-use Rattle.rx.specs.Conditions.{wrongBook, wrongState, tooMany, wrongSamples, wrongNumber, wrongParts}
+use Rattle.rx.specs.Conditions.{wrongBook, wrongState, tooMany, wrongSamples}
 use Rattle.rx.specs.Feed.{Given, given, sampleFault, feedFault, feedOf, feedOutcome, FedBy}
 use Rattle.rx.specs.Sound.{sound}
 use Rattle.rx.specs.Ready.{Ready}

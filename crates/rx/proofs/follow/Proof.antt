@@ -1,6 +1,6 @@
 -- `rx::follow` meets its contract: the append and the filter find what they ask for, and their results are its own. Assumes nothing.
-use Prim.Native.Nat.{ℕ, _+_, _-_, _*_, _/_, _≤_, _<_, _^_}
-use mathlib.Core.Path.{_≡_, refl, sym, ap, ap₂, _∙_, subst}
+use Prim.Native.Nat.{ℕ, _-_, _/_}
+use mathlib.Core.Path.{_≡_, subst}
 use mathlib.Core.List.{List}
 use native.Mathlib.Omega.{arith}
 use lib.ListN.{length}
@@ -14,7 +14,6 @@ use Rattle.rx.specs.Conditions.{spanEnd}
 use Rattle.rx.specs.Numbers.{endWith}
 use Rattle.rx.specs.Accept.{spansOf}
 use Rattle.rx.specs.Ready.{append-fits, filter-fits}
-use Rattle.rx.specs.Fed.{FollowedBy}
 use borrow.Author.Needs.{needs}
 use Rattle.rx.proofs.follow.Statement.{statement}
 use Rattle.rx.proofs.follow.Tie as tie

@@ -1,15 +1,11 @@
 -- `rx::search_on` meets its contract: the search finds what it asks for, and the state is made of its answer. Assumes nothing.
-use Prim.Native.Nat.{ℕ, _+_, _-_, _*_, _/_, _≤_, _<_, _^_}
+use Prim.Native.Nat.{ℕ, _-_}
 use mathlib.Core.Path.{_≡_, refl, sym, ap, ap₂, _∙_, subst}
 use mathlib.Core.List.{List}
 use native.Mathlib.Omega.{arith}
-use lib.ListN.{length}
 use lib.Ieee.{Float}
 use Rattle.level.specs.declared.Layout.{Layout}
 use Rattle.level.specs.Sized.{sized}
-use Rattle.track.specs.declared.Span.{Span}
-use Rattle.filter.specs.declared.Spans.{Spans}
-use Rattle.hold.specs.declared.Hold.{Hold}
 use Rattle.hold.specs.declared.Offered.{Offered}
 use Rattle.search.specs.Search.{searchCount}
 use Rattle.search.specs.Chi.{Tables}
@@ -20,11 +16,9 @@ use Rattle.rx.specs.declared.Tracks.{Tracks}
 use Rattle.rx.specs.declared.FeedResult.{FeedResult}
 use Rattle.rx.specs.declared.FeedAnswer.the-variants.{Accepted}
 use Rattle.rx.specs.Receiver.{placeAfter}
-use Rattle.rx.specs.Numbers.{placeIn, endWith, countWith}
-use Rattle.rx.specs.Accept.{stateAfter}
-use Rattle.rx.specs.Ready.{Ready, search-fits, searched-near}
+use Rattle.rx.specs.Numbers.{placeIn}
+use Rattle.rx.specs.Ready.{search-fits, searched-near}
 use Rattle.rx.specs.Fed.{SearchOnFits, SearchedOn}
-use borrow.Author.Needs.{needs}
 use Rattle.rx.proofs.search_on.Statement.{statement}
 use Rattle.rx.proofs.search_on.Tie as tie
 

@@ -1,13 +1,10 @@
 -- `rx::conditions::ends_outside` meets its contract: no sum is formed that could wrap. Assumes nothing.
-use Prim.Native.Nat.{ℕ, _+_, _-_, _*_, _/_, _%_, _<_, _≤_, _^_}
-use mathlib.Core.Path.{_≡_, refl, sym, ap, _∙_}
-use mathlib.Core.Bool.{Bool, true, false, not, _||_}
-use mathlib.Core.List.{List}
+use Prim.Native.Nat.{ℕ, _+_, _-_, _<_, _≤_, _^_}
+use mathlib.Core.Path.{_≡_, refl, sym}
+use mathlib.Core.Bool.{Bool, true, false}
 use native.Mathlib.Omega.{arith}
 use lib.Dec.{ltb}
 use borrow.Author.Tests.{lt-ltb, le-ltb, ltb-true, ltb-false}
-use Rattle.track.specs.declared.Span.{Span}
-use Rattle.rx.specs.Conditions.{outside, spanEnd}
 use Rattle.rx.proofs.conditions.ends_outside.Statement.{statement}
 use Rattle.rx.proofs.conditions.ends_outside.Tie as tie
 

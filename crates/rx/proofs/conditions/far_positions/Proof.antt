@@ -1,8 +1,7 @@
 -- `rx::conditions::far_positions` meets its contract: the six tests in order. Assumes nothing.
-use Prim.Native.Nat.{ℕ, _+_, _-_, _*_, _<_, _≤_, _^_}
-use mathlib.Core.Path.{_≡_, refl, sym, ap, _∙_}
-use mathlib.Core.Bool.{Bool, true, false, not, _||_}
-use native.Mathlib.Omega.{arith}
+use Prim.Native.Nat.{_-_}
+use mathlib.Core.Path.{_≡_, refl, sym, _∙_}
+use mathlib.Core.Bool.{Bool, true, false, _||_}
 use Rattle.rx.specs.declared.State.{State}
 use Rattle.rx.specs.Conditions.{spanEnd, outside, placeOutside, heldOutside, blockOutside, farPositions}
 use borrow.Author.Needs.{needs}

@@ -1,11 +1,7 @@
 -- `rx::conditions::late_samples` meets its contract. Assumes nothing.
-use Prim.Native.Nat.{ℕ, _+_, _-_, _*_, _<_, _≤_, _^_}
-use mathlib.Core.Path.{_≡_, refl, sym, ap, ap₂, _∙_}
-use mathlib.Core.Bool.{Bool, true, false, not, _||_}
-use native.Mathlib.Omega.{arith}
-use Rattle.rx.specs.declared.State.{State}
+use Prim.Native.Nat.{ℕ, _+_, _-_}
+use mathlib.Core.Path.{ap}
 use lib.Dec.{ltb}
-use Rattle.level.specs.declared.Layout.{Layout}
 use Rattle.rx.specs.Conditions.{lateSamples}
 use borrow.Author.Needs.{needs}
 use Rattle.rx.proofs.conditions.late_samples.Statement.{statement}

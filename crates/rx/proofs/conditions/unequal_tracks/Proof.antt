@@ -1,8 +1,7 @@
 -- `rx::conditions::unequal_tracks` meets its contract. Assumes nothing.
-use Prim.Native.Nat.{ℕ, _+_, _-_, _*_, _<_, _≤_, _^_}
-use mathlib.Core.Path.{_≡_, refl, sym, ap, _∙_}
-use mathlib.Core.Bool.{Bool, true, false, not, _||_}
-use native.Mathlib.Omega.{arith}
+use Prim.Native.Nat.{_-_}
+use mathlib.Core.Path.{_≡_, sym, ap, _∙_}
+use mathlib.Core.Bool.{Bool, true, false, _||_}
 use Rattle.rx.specs.declared.State.{State}
 use Rattle.rx.specs.Conditions.{unequal, unequalTracks}
 use borrow.Author.Needs.{needs}

@@ -1,12 +1,10 @@
 -- `rx::conditions::unsearched` meets its contract. Assumes nothing.
-use Prim.Native.Nat.{ℕ, _+_, _-_, _*_, _%_, _<_, _≤_, _^_, max}
-use mathlib.Core.Path.{_≡_, refl, sym, ap, ap₂, _∙_}
-use mathlib.Core.Bool.{Bool, true, false, not, _||_}
+use Prim.Native.Nat.{ℕ, _+_, _-_, _%_, _≤_, _^_, max}
+use mathlib.Core.Path.{_≡_, ap, ap₂, _∙_}
+use mathlib.Core.Bool.{not}
 use native.Mathlib.Omega.{arith}
-use Rattle.rx.specs.declared.State.{State}
 use lib.Dec.{eqb}
 use Rattle.search.specs.Search.{searchCount}
-use Rattle.rx.specs.Receiver.{searchFrom}
 use Rattle.rx.specs.Near.{place-near}
 use Rattle.rx.specs.Conditions.{unsearched}
 use borrow.Author.Needs.{needs}

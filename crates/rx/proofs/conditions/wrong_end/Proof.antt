@@ -1,11 +1,8 @@
 -- `rx::conditions::wrong_end` meets its contract. Assumes nothing.
-use Prim.Native.Nat.{ℕ, _+_, _-_, _*_, _<_, _≤_, _^_}
-use mathlib.Core.Path.{_≡_, refl, sym, ap, ap₂, _∙_}
-use mathlib.Core.Bool.{Bool, true, false, not, _||_}
-use native.Mathlib.Omega.{arith}
-use Rattle.rx.specs.declared.State.{State}
+use Prim.Native.Nat.{ℕ, _-_}
+use mathlib.Core.Path.{ap, ap₂, _∙_}
+use mathlib.Core.Bool.{not}
 use lib.Dec.{eqb}
-use Rattle.level.specs.declared.Layout.{Layout}
 use Rattle.filter.specs.Filter.{filteredEnd}
 use Rattle.rx.specs.Conditions.{wrongEnd}
 use borrow.Author.Needs.{needs}

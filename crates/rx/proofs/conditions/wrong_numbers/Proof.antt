@@ -1,8 +1,7 @@
 -- `rx::conditions::wrong_numbers` meets its contract: the five tests in order. Assumes nothing.
-use Prim.Native.Nat.{ℕ, _+_, _-_, _*_, _<_, _≤_, _^_}
-use mathlib.Core.Path.{_≡_, refl, sym, ap, ap₂, _∙_}
-use mathlib.Core.Bool.{Bool, true, false, not, _||_}
-use native.Mathlib.Omega.{arith}
+use Prim.Native.Nat.{_-_}
+use mathlib.Core.Path.{_≡_, refl, sym, _∙_}
+use mathlib.Core.Bool.{Bool, true, false, _||_}
 use Rattle.rx.specs.Conditions.{unequalTracks, wrongEnd, lateSamples, unsearched, wrongHeld}
 use borrow.Author.Needs.{needs}
 use Rattle.rx.proofs.conditions.wrong_numbers.Statement.{statement}

@@ -1,6 +1,6 @@
 -- `rx::fault::sample_fault` meets its contract: conditions 16 to 20, one after the other. Assumes nothing.
 use Prim.Native.Nat.{ℕ, _/_, _%_, _≤_}
-use mathlib.Core.Path.{_≡_, refl, sym, ap, _∙_}
+use mathlib.Core.Path.{_≡_, refl, sym, _∙_}
 use mathlib.Core.Bool.{true, false, not}
 use mathlib.Core.List.{List}
 use native.Mathlib.Omega.{arith}
@@ -13,7 +13,7 @@ use Rattle.refusal.specs.declared.Fault.the-variants.{Clear, Met}
 use Rattle.refusal.specs.Clear.{neither}
 use Rattle.level.specs.declared.Layout.{Layout}
 use Rattle.rx.specs.declared.State.{State}
-use Rattle.rx.specs.Near.{Near, near-state}
+use Rattle.rx.specs.Near.{near-state}
 use Rattle.rx.specs.Conditions.{wrongBook, wrongState, tooMany, wrongSamples, wrongNumber, wrongParts}
 use Rattle.rx.specs.Feed.{sampleFault}
 use borrow.Author.Needs.{needs}

@@ -1,7 +1,7 @@
 -- `rx::fault::start_fault` meets its contract: conditions 15 and 16, one after the other. Assumes nothing.
-use Prim.Native.Nat.{ℕ, _/_, _≤_, _^_}
-use mathlib.Core.Path.{_≡_, refl, sym, ap, _∙_}
-use mathlib.Core.Bool.{Bool, true, false}
+use Prim.Native.Nat.{ℕ, _≤_, _^_}
+use mathlib.Core.Path.{_≡_, refl, sym, _∙_}
+use mathlib.Core.Bool.{true, false}
 use mathlib.Core.List.{List}
 use Prim.Native.Nat.{_<_}
 use lib.Ieee.{Float}

@@ -1,12 +1,10 @@
 -- `rx::fault::wrong_parts` meets its contract: none of the parts passed is too large. Assumes nothing.
-use Prim.Native.Nat.{ℕ, _+_, _-_, _*_, _/_, _%_, _<_, _≤_, _^_}
-use mathlib.Core.Path.{_≡_, refl, sym, ap, _∙_}
-use mathlib.Core.Bool.{Bool, true, false, not, _||_}
-use mathlib.Core.List.{List}
+use Prim.Native.Nat.{_-_, _≤_}
+use mathlib.Core.Path.{_≡_, sym, ap, _∙_}
+use mathlib.Core.Bool.{false, not}
 use native.Mathlib.Omega.{arith}
 use lib.ListN.{length, getD}
-use lib.Ieee.{Float, nan}
-use borrow.Author.Tests.{not-true, not-false}
+use lib.Ieee.{nan}
 use Rattle.refusal.specs.Any.{any, any-none, any-more, any-at, any-done}
 use Rattle.laws.specs.Tests.{inSize}
 use Rattle.rx.specs.Conditions.{wrongParts, largest}

@@ -1,7 +1,5 @@
 -- `rx::places::search_from` meets its contract: the greater of the two, made even. Assumes nothing.
-use Prim.Native.Nat.{ℕ, _+_, _-_, _*_, _<_, _≤_, _^_}
-use mathlib.Core.Path.{_≡_, refl, sym, ap, ap₂, _∙_}
-use mathlib.Core.Bool.{Bool, true, false, not, _||_}
+use Prim.Native.Nat.{_+_, _-_}
 use native.Mathlib.Omega.{arith}
 use Rattle.rx.specs.Near.{place-near}
 use borrow.Author.Needs.{needs}
