@@ -10,6 +10,7 @@ use Rattle.complex.specs.declared.Complex.{Complex}
 use Rattle.complex.specs.Lists.{tabulate-ext}
 use Rattle.complex.specs.Pairs.{cget, cset, complexes, cfilled, cfilled-none, cfilled-length, cfilled-step, cfilled-at}
 use Rattle.track.specs.Window.{window}
+use Rattle.filter.specs.declared.Two.{Two}
 
 pub record Filling (f : ℕ → Complex) (k : ℕ) (l m : List Float) : Type 0 where
   pub long : length m ≡ length l
@@ -23,6 +24,14 @@ pub filling-more : (f : ℕ → Complex) (k : ℕ) (l m r : List Float) (z : Com
 filling-more f k l m r z i h v s =
     let t : r ≡ cfilled f (k + 1) l = s ∙ ap (cset m k) v ∙ cfilled-step f k l m (i .values) h in
     record { long = ap length t ∙ cfilled-length f (k + 1) l (omega arith); values = t }
+
+-- a turn that stores two
+pub filling-two : (f : ℕ → Complex) (k : ℕ) (l m p r : List Float) (t : Two) → Filling f k l m → 2 * k + 3 < length l
+    → t ≡ record { first = f k; second = f (k + 1) } → p ≡ cset m k (t .first) → r ≡ cset p (k + 1) (t .second) → Filling f (k + 2) l r
+filling-two f k l m p r t i h v s u =
+    let one : Filling f (k + 1) l p = filling-more f k l m p (t .first) i (omega arith) (ap (λ (t : Two). t .first) v) s in
+    let e : k + 1 + 1 ≡ k + 2 = omega arith in
+    rw e at (filling-more f (k + 1) l p r (t .second) one (omega arith) (ap (λ (t : Two). t .second) v) u)
 
 -- a slice that is filled with the values of a row
 pub filled-window : (f g : ℕ → Complex) (e n : ℕ) (l : List Float) → ((i : ℕ) → i < n → f i ≡ g (e + i)) → complexes (cfilled f n l) 0 n ≡ window g e n

@@ -18,6 +18,12 @@ pub struct Spans {
     pub power: Span,
 }
 
+// The sums of two places.
+struct Two {
+    first: Complex,
+    second: Complex,
+}
+
 // Turns `count` samples into `out`: those of the memory from place `from` on, of which the first is number `first`.
 fn turn(
     out: &mut [f64],
@@ -56,15 +62,42 @@ fn fir_at(v: &[f64], taps: &[f64], count: usize, i: usize) -> Complex
     sum
 }
 
-// Fills out with n of these sums.
+// The sums of the places i and i + 1, in one loop: neither waits for the other's additions.
+fn fir_two(v: &[f64], taps: &[f64], count: usize, i: usize) -> Two
+    requires { ⌜ (2 * (i + 1 + count) ≤ length (now v)) × (count ≤ length (now taps)) ⌝ }
+    ensures { λ r. ⌜ r ≡ record { first = firAt (now (v .entry)) (now (taps .entry)) count i; second = firAt (now (v .entry)) (now (taps .entry)) count (i + 1) } ⌝ }
+{
+    let mut first = complex::zero();
+    let mut second = complex::zero();
+    let mut here = complex::get(v, i);
+    let mut k = 0;
+    while k < count {
+        let next = complex::get(v, i + 1 + k);
+        let tap = taps[k];
+        first = complex::add(first, complex::scale(here, tap));
+        second = complex::add(second, complex::scale(next, tap));
+        here = next;
+        k += 1;
+    }
+    Two { first, second }
+}
+
+// Fills out with n of these sums, two a turn.
 fn fir(out: &mut [f64], v: &[f64], taps: &[f64], count: usize, n: usize)
     requires { ⌜ (2 * (n + count) ≤ length (now v) + 2) × (count ≤ length (now taps)) × (2 * n ≤ length (now out)) ⌝ }
     ensures { λ _. ⌜ now (out .exit) ≡ cfilled (firAt (now (v .entry)) (now (taps .entry)) count) n (now (out .entry)) ⌝ }
 {
     let mut i = 0;
-    while i < n {
+    while i + 1 < n {
+        let two = fir_two(v, taps, count, i);
+        let first = two.first;
+        let second = two.second;
+        complex::put(out, i, first);
+        complex::put(out, i + 1, second);
+        i += 2;
+    }
+    if i < n {
         complex::put(out, i, fir_at(v, taps, count, i));
-        i += 1;
     }
 }
 
