@@ -1,5 +1,5 @@
-//! The fixed list: what the programs replay_symbols, replay_audio and feed_cases print, made from the reference's
-//! answers to the inputs of crates/replay_inputs, beside what the repository has them print.
+//! The fixed list: what the programs replay_symbols, replay_audio, replay_detections and feed_cases print, made from
+//! the reference's answers to the inputs of crates/replay_inputs, beside what the repository has them print.
 use crate::count::Count;
 use reference::adaptor::{self, Layout, Tables};
 use reference::Complex64;
@@ -12,7 +12,13 @@ pub fn run(count: &mut Count) {
     let repository = Path::new(env!("CARGO_MANIFEST_DIR")).join("..");
     let written = repository.join("target/replays");
     fs::create_dir_all(&written).expect("target/replays");
-    for (program, text) in [("replay_symbols", symbols()), ("replay_audio", audio()), ("feed_cases", detections())] {
+    let programs = [
+        ("replay_symbols", symbols()),
+        ("replay_audio", audio()),
+        ("replay_detections", detections(6, 25_700)),
+        ("feed_cases", cuttings()),
+    ];
+    for (program, text) in programs {
         fs::write(written.join(program), &text).expect("target/replays");
         let kept = fs::read_to_string(repository.join("crates").join(program).join("stdout")).unwrap_or_default();
         // What feed_cases prints of refusals comes after the detections.
@@ -146,12 +152,12 @@ fn audio() -> String {
     text
 }
 
-/// The detections of feed_cases, which feeds the same signal in three cuttings.
-fn detections() -> String {
-    let (layout, book, mut chain) = (layout(4), book(), Chain(1));
+/// The detections in so many samples of two frames.
+fn detections(record: u32, len: usize) -> String {
+    let (layout, book, mut chain) = (layout(record), book(), Chain(1));
     let tables = chain.tables(layout, &book);
     let rows = chain.rows(layout, &tables, 2);
-    let samples = chain.signal(layout, &rows, &book, 700, 26_800);
+    let samples = chain.signal(layout, &rows, &book, 700, len);
     let mut receiver = adaptor::open(layout, &tables, 1000);
     let mut text = String::new();
     for feed in samples.chunks(4000) {
@@ -159,6 +165,12 @@ fn detections() -> String {
             writeln!(text, "{position} {:016x}", metric.to_bits()).unwrap();
         }
     }
-    let cutting = format!("{} as told\n{text}", samples.len());
+    text
+}
+
+/// feed_cases feeds one signal in three cuttings, whose detections are alike.
+fn cuttings() -> String {
+    let len = 26_800;
+    let cutting = format!("{len} as told\n{}", detections(4, len));
     format!("{}equal\n", cutting.repeat(3))
 }

@@ -20,16 +20,13 @@ pub fn note(r: Release, row: &mut [u64], n: usize) -> usize
     n + 2
 }
 
-// A line for each detection in the first n places: the position in decimal, the metric's bits in hexadecimal.
+// A line for each detection in the first n places.
 pub fn show(row: &[u64], n: usize)
     requires { ⌜ n ≤ length (now row) ⌝ }
 {
     let mut i = 0;
     while i < n / 2 {
-        io::print_decimal(STDOUT_FILENO, row[2 * i]);
-        io::write_all(STDOUT_FILENO, b" ");
-        io::print_hex(STDOUT_FILENO, row[2 * i + 1], 16);
-        io::write_all(STDOUT_FILENO, b"\n");
+        replay::show_detection(row[2 * i], row[2 * i + 1]);
         i += 1;
     }
 }

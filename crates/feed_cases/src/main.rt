@@ -6,8 +6,6 @@ mod feeds;
 mod log;
 
 use feeds::Rule;
-use libc::STDOUT_FILENO;
-use psk::Sent;
 
 // The three cuttings, and whether their detections are alike.
 fn cuttings(markers: &[u16], phasors: &[f64], book: &[f64], memory: &mut [f64], signal: &[f64])
@@ -57,7 +55,5 @@ fn main() {
     let mut memory = [0.0; 522816];
     let sent = replay_inputs::two_frames(&mut book, &mut markers, &mut phasors, &mut signal);
     cuttings(&markers, &phasors, &book, &mut memory, &signal);
-    if let Sent::Refused(_) = sent {
-        io::write_all(STDOUT_FILENO, b"not sent\n");
-    }
+    replay::show_unsent(sent);
 }

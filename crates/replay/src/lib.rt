@@ -1,10 +1,7 @@
-// What the programs that replay the sender share: one frame sent in a layout, and numbers shown by their bits.
+// What the programs that replay share: one frame sent in a layout, and how numbers, detections and refusals are shown.
 ghost use mathlib.Core.Path.{_≡_};
 ghost use lib.ListN.{length};
-ghost use Rattle.level.specs.Sized.{Sized};
-ghost use Rattle.replay.specs.Table.{entries};
 use level::Chosen;
-use level::Layout;
 use libc::STDOUT_FILENO;
 use psk::Sent;
 use refusal::Refusal;
@@ -24,38 +21,25 @@ pub fn show_refusal(r: Refusal) {
     end_line();
 }
 
-// A number's 64 bits in 16 hexadecimal digits.
-pub fn show(x: f64) {
-    io::print_hex(STDOUT_FILENO, replay_inputs::bits_of(x), 16);
+fn show_bits(bits: u64) {
+    io::print_hex(STDOUT_FILENO, bits, 16);
 }
 
-// One frame from the generator's seed 1: tables, payload and draws one after the other, then the rows.
-fn send(
-    l: Layout,
-    book: &[f64],
-    markers: &mut [u16],
-    phasors: &mut [f64],
-    payload: &mut [u8],
-    draws: &mut [u8],
-    rows: &mut [f64],
-)
-    requires { ⌜ Sized l × (length (now book) ≡ 6000) × (length (now markers) ≡ entries l) ⌝ }
-{
-    let alphabet = if l.bps == 1 { 2 } else { 4 };
-    let x = replay_inputs::markers(l, 1, markers);
-    let y = replay_inputs::phasors(x, book, phasors);
-    let z = replay_inputs::bits(y, payload);
-    replay_inputs::points(z, alphabet, draws);
-    let sent = psk::modulate(
-        l.bandwidth,
-        l.rec,
-        markers,
-        phasors,
-        1,
-        payload,
-        draws,
-        rows,
-    );
+// A number's 64 bits in 16 hexadecimal digits.
+pub fn show(x: f64) {
+    show_bits(replay_inputs::bits_of(x));
+}
+
+// A line for a detection: the position in decimal, the metric's bits in hexadecimal.
+pub fn show_detection(position: u64, metric_bits: u64) {
+    io::print_decimal(STDOUT_FILENO, position);
+    blank();
+    show_bits(metric_bits);
+    end_line();
+}
+
+// A line where sending was refused.
+pub fn show_unsent(sent: Sent) {
     match sent {
         Sent::Done => {}
         Sent::Refused(r) => show_refusal(r),
@@ -72,15 +56,20 @@ pub fn send_500_4(book: &[f64], rows: &mut [f64])
     let mut draws = [0u8; 18];
     let chosen = level::choose(500, 4);
     match chosen {
-        Chosen::Psk(l) => send(
-            l,
-            book,
-            &mut markers,
-            &mut phasors,
-            &mut payload,
-            &mut draws,
-            rows,
-        ),
+        Chosen::Psk(l) => {
+            let r = replay_inputs::send(
+                l,
+                1,
+                book,
+                &mut markers,
+                &mut phasors,
+                &mut payload,
+                &mut draws,
+                rows,
+            );
+            let sent = r.sent;
+            show_unsent(sent);
+        }
         Chosen::Refused(r) => show_refusal(r),
     }
 }
@@ -95,15 +84,20 @@ pub fn send_500_6(book: &[f64], rows: &mut [f64])
     let mut draws = [0u8; 27];
     let chosen = level::choose(500, 6);
     match chosen {
-        Chosen::Psk(l) => send(
-            l,
-            book,
-            &mut markers,
-            &mut phasors,
-            &mut payload,
-            &mut draws,
-            rows,
-        ),
+        Chosen::Psk(l) => {
+            let r = replay_inputs::send(
+                l,
+                1,
+                book,
+                &mut markers,
+                &mut phasors,
+                &mut payload,
+                &mut draws,
+                rows,
+            );
+            let sent = r.sent;
+            show_unsent(sent);
+        }
         Chosen::Refused(r) => show_refusal(r),
     }
 }

@@ -5,6 +5,7 @@ ghost use lib.ListN.{length};
 ghost use Rattle.level.specs.Rows.{IsLayout};
 ghost use Rattle.level.specs.Sized.{Sized};
 ghost use Rattle.level.specs.Lengths.{rowLength};
+ghost use Rattle.replay_inputs.specs.Table.{entries, rowNumbers};
 use complex::Complex;
 use level::Chosen;
 use level::Layout;
@@ -101,14 +102,14 @@ fn value(l: Layout, i: usize, x: u64) -> usize
 
 // Value v of carrier c at place i, and its flag.
 fn mark(l: Layout, c: usize, i: usize, v: usize, out: &mut [u16])
-    requires { ⌜ Sized l × (c < l .nc) × (i < l .markers) × (5 ≤ v) × (v + 4 ≤ l .spf) × (length (now out) ≡ l .nc * (l .markers + l .nsym)) ⌝ }
+    requires { ⌜ Sized l × (c < l .nc) × (i < l .markers) × (5 ≤ v) × (v + 4 ≤ l .spf) × (length (now out) ≡ entries l) ⌝ }
 {
     out[c * l.markers + i] = v as u16;
     out[l.nc * l.markers + (c * l.nsym + (v - 2))] = 1;
 }
 
 fn carrier_markers(l: Layout, c: usize, x: u64, out: &mut [u16]) -> u64
-    requires { ⌜ Sized l × (c < l .nc) × (length (now out) ≡ l .nc * (l .markers + l .nsym)) ⌝ }
+    requires { ⌜ Sized l × (c < l .nc) × (length (now out) ≡ entries l) ⌝ }
 {
     let mut state = x;
     let mut i = 0;
@@ -122,7 +123,7 @@ fn carrier_markers(l: Layout, c: usize, x: u64, out: &mut [u16]) -> u64
 
 // The marker table of a layout, carrier by carrier; the generator's state after it.
 pub fn markers(l: Layout, x: u64, out: &mut [u16]) -> u64
-    requires { ⌜ Sized l × (length (now out) ≡ l .nc * (l .markers + l .nsym)) ⌝ }
+    requires { ⌜ Sized l × (length (now out) ≡ entries l) ⌝ }
 {
     clear(out);
     let mut state = x;
@@ -144,7 +145,7 @@ fn carrier_part(
     c: usize,
     n: usize,
 ) -> Complex
-    requires { ⌜ IsLayout l × (c < l .nc) × (frames ≤ 4) × (length (now rows) ≡ 2 * (l .nc * rowLength l frames)) × (length (now book) ≡ 6000) × (lead ≤ 2 ^ 32) × (n ≤ 2 ^ 32) ⌝ }
+    requires { ⌜ IsLayout l × (c < l .nc) × (frames ≤ 4) × (length (now rows) ≡ rowNumbers l frames) × (length (now book) ≡ 6000) × (lead ≤ 2 ^ 32) × (n ≤ 2 ^ 32) ⌝ }
 {
     let from = lead + level::stagger(l.nc, c) as usize;
     if n < from {
@@ -162,7 +163,7 @@ fn carrier_part(
 
 // Sample n with no noise: the carriers' parts in order.
 fn sample(l: Layout, rows: &[f64], frames: usize, book: &[f64], lead: usize, n: usize) -> Complex
-    requires { ⌜ IsLayout l × (frames ≤ 4) × (length (now rows) ≡ 2 * (l .nc * rowLength l frames)) × (length (now book) ≡ 6000) × (lead ≤ 2 ^ 32) × (n ≤ 2 ^ 32) ⌝ }
+    requires { ⌜ IsLayout l × (frames ≤ 4) × (length (now rows) ≡ rowNumbers l frames) × (length (now book) ≡ 6000) × (lead ≤ 2 ^ 32) × (n ≤ 2 ^ 32) ⌝ }
 {
     let mut z = complex::zero();
     let mut c = 0;
@@ -189,7 +190,7 @@ pub fn signal(
     x: u64,
     out: &mut [f64],
 ) -> u64
-    requires { ⌜ IsLayout l × (frames ≤ 4) × (length (now rows) ≡ 2 * (l .nc * rowLength l frames)) × (length (now book) ≡ 6000) × (lead ≤ 2 ^ 32) × (length (now out) ≤ 2 ^ 32) ⌝ }
+    requires { ⌜ IsLayout l × (frames ≤ 4) × (length (now rows) ≡ rowNumbers l frames) × (length (now book) ≡ 6000) × (lead ≤ 2 ^ 32) × (length (now out) ≤ 2 ^ 32) ⌝ }
 {
     let mut state = x;
     let mut n = 0;
@@ -205,42 +206,109 @@ pub fn signal(
     state
 }
 
-// Two frames of drawn bits as samples, 700 samples late.
-fn send(l: Layout, x: u64, markers: &[u16], phasors: &[f64], book: &[f64], out: &mut [f64]) -> Sent
-    requires { ⌜ IsLayout l × (l .nc * rowLength l 2 ≡ 1590) × (length (now book) ≡ 6000) × (length (now out) ≤ 2 ^ 32) ⌝ }
-{
-    let mut payload = [0u8; 1496];
-    let mut draws = [0u8; 20];
-    let mut rows = [0.0; 3180];
-    let y = bits(x, &mut payload);
-    let z = points(y, 2, &mut draws);
-    let sent = psk::modulate(500, 4, markers, phasors, 2, &payload, &draws, &mut rows);
-    signal(l, &rows, 2, book, 700, z, out);
-    sent
+// What sending drawn bits comes to, and the generator's state after the draws.
+pub struct Sending {
+    pub sent: Sent,
+    pub state: u64,
 }
 
+// Rows of frames from seed 1 on: the marker table, the phasors, payload and draws one after the other, as much of each as there is room for.
+pub fn send(
+    l: Layout,
+    frames: u32,
+    book: &[f64],
+    marks: &mut [u16],
+    turned: &mut [f64],
+    payload: &mut [u8],
+    draws: &mut [u8],
+    rows: &mut [f64],
+) -> Sending
+    requires { ⌜ Sized l × (length (now book) ≡ 6000) × (length (now marks) ≡ entries l) ⌝ }
+{
+    let alphabet = if l.bps == 1 { 2 } else { 4 };
+    let x = markers(l, 1, marks);
+    let y = phasors(x, book, turned);
+    let z = bits(y, payload);
+    let state = points(z, alphabet, draws);
+    let sent = psk::modulate(
+        l.bandwidth,
+        l.rec,
+        marks,
+        turned,
+        frames,
+        payload,
+        draws,
+        rows,
+    );
+    Sending { sent, state }
+}
+
+// The turn book, then two frames as samples, 700 samples late.
 fn two_frames_in(
     l: Layout,
     turns: &mut [f64],
     marks: &mut [u16],
     turned: &mut [f64],
+    payload: &mut [u8],
+    draws: &mut [u8],
+    rows: &mut [f64],
     out: &mut [f64],
 ) -> Sent
-    requires { ⌜ IsLayout l × (l .nc * (l .markers + l .nsym) ≡ 822) × (l .nc * rowLength l 2 ≡ 1590) × (length (now turns) ≡ 6000) × (length (now marks) ≡ 822) × (length (now out) ≤ 2 ^ 32) ⌝ }
+    requires { ⌜ IsLayout l × (length (now turns) ≡ 6000) × (length (now marks) ≡ entries l) × (length (now rows) ≡ rowNumbers l 2) × (length (now out) ≤ 2 ^ 32) ⌝ }
 {
     book(turns);
-    let x = markers(l, 1, marks);
-    let y = phasors(x, turns, turned);
-    send(l, y, marks, turned, turns, out)
+    let r = send(l, 2, turns, marks, turned, payload, draws, rows);
+    signal(l, rows, 2, turns, 700, r.state, out);
+    r.sent
 }
 
 // Two frames in the layout 500/4, from seed 1 on: the turn book, the marker table, the phasors, then payload, draws and signal.
 pub fn two_frames(turns: &mut [f64], marks: &mut [u16], turned: &mut [f64], out: &mut [f64]) -> Sent
     requires { ⌜ (length (now turns) ≡ 6000) × (length (now marks) ≡ 822) × (length (now out) ≤ 2 ^ 32) ⌝ }
 {
+    let mut payload = [0u8; 1496];
+    let mut draws = [0u8; 20];
+    let mut rows = [0.0; 3180];
     let chosen = level::choose(500, 4);
     match chosen {
-        Chosen::Psk(l) => two_frames_in(l, turns, marks, turned, out),
+        Chosen::Psk(l) => two_frames_in(
+            l,
+            turns,
+            marks,
+            turned,
+            &mut payload,
+            &mut draws,
+            &mut rows,
+            out,
+        ),
+        Chosen::Refused(f) => Sent::Refused(f),
+    }
+}
+
+// The same in the layout 500/6.
+pub fn two_frames_500_6(
+    turns: &mut [f64],
+    marks: &mut [u16],
+    turned: &mut [f64],
+    out: &mut [f64],
+) -> Sent
+    requires { ⌜ (length (now turns) ≡ 6000) × (length (now marks) ≡ 1161) × (length (now out) ≤ 2 ^ 32) ⌝ }
+{
+    let mut payload = [0u8; 4344];
+    let mut draws = [0u8; 30];
+    let mut rows = [0.0; 4554];
+    let chosen = level::choose(500, 6);
+    match chosen {
+        Chosen::Psk(l) => two_frames_in(
+            l,
+            turns,
+            marks,
+            turned,
+            &mut payload,
+            &mut draws,
+            &mut rows,
+            out,
+        ),
         Chosen::Refused(f) => Sent::Refused(f),
     }
 }

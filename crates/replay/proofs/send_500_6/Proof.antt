@@ -4,7 +4,7 @@ use native.Mathlib.Omega.{arith}
 use Rattle.level.specs.Layout.{outcome}
 use Rattle.level.specs.Rows.{is-layout}
 use Rattle.level.specs.Sized.{sized}
-use Rattle.replay.specs.Table.{entries-500-6}
+use Rattle.replay_inputs.specs.Table.{entries-500-6}
 use borrow.Author.Needs.{needs}
 use Rattle.replay.proofs.send_500_6.Statement.{statement}
 use Rattle.replay.proofs.send_500_6.Tie as tie
@@ -32,6 +32,9 @@ send-requires c κs =
     let e = sym (c .before .before .before .before .before .before .before .before .choose .ensures) ∙ ap outcome (c .before .before .before .before .before .before .chosen .given .1) in
     (sized _ (is-layout _ _ _ e), search needs, omega (arith, entries-500-6 _ e))
 
+show-unsent-requires : tie.Need-show-unsent-requires
+show-unsent-requires c κs = search needs
+
 enum-known-chosen-2 : tie.Need-enum-known-chosen-2
 enum-known-chosen-2 c = search needs
 
@@ -58,6 +61,7 @@ send-500-6-spec =
     slice-aggregate-send-3
     slice-aggregate-send-4
     send-requires
+    show-unsent-requires
     enum-known-chosen-2
     show-refusal-requires
     same-length

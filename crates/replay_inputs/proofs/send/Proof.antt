@@ -1,41 +1,38 @@
--- `replay_inputs::send` is safe: the rows are as long as the layout asks. Assumes nothing.
-use native.Mathlib.Omega.{arith}
+-- `replay_inputs::send` is safe: the marker table has the layout's length, and the alphabet is two or four. Assumes nothing.
+use mathlib.Core.Logic.{⊎-elim}
 use borrow.Author.Needs.{needs}
 use Rattle.replay_inputs.proofs.send.Statement.{statement}
 use Rattle.replay_inputs.proofs.send.Tie as tie
 
-slice-aggregate-bits : tie.Need-slice-aggregate-bits
-slice-aggregate-bits c = search needs
+markers-requires : tie.Need-markers-requires
+markers-requires c κs = search needs
+
+phasors-requires : tie.Need-phasors-requires
+phasors-requires c κs = search needs
 
 bits-requires : tie.Need-bits-requires
 bits-requires c κs = search needs
 
-slice-aggregate-points : tie.Need-slice-aggregate-points
-slice-aggregate-points c = search needs
-
 points-requires : tie.Need-points-requires
-points-requires c κs = search needs
-
-slice-aggregate-modulate : tie.Need-slice-aggregate-modulate
-slice-aggregate-modulate c = search needs
-
-slice-aggregate-modulate-2 : tie.Need-slice-aggregate-modulate-2
-slice-aggregate-modulate-2 c = search needs
-
-slice-aggregate-modulate-3 : tie.Need-slice-aggregate-modulate-3
-slice-aggregate-modulate-3 c = search needs
+points-requires c κs = ⊎-elim (λ w. search needs) (λ w. search needs) (c .before .before .before .before .before .before .before .before .before .before .before .before .before .if1 .came)
 
 modulate-requires : tie.Need-modulate-requires
 modulate-requires c κs = search needs
 
-slice-aggregate-signal : tie.Need-slice-aggregate-signal
-slice-aggregate-signal c = search needs
-
-signal-requires : tie.Need-signal-requires
-signal-requires c κs = let s = c .before .before .before .before .before .before .before .before .before .before .before .before .before .before .before .before .before in (s .pre .0, search needs, omega (arith, s .pre .1), s .pre .2, search needs, s .pre .3)
-
 same-length : tie.Need-same-length
 same-length c = search needs
+
+same-length-2 : tie.Need-same-length-2
+same-length-2 c = search needs
+
+same-length-3 : tie.Need-same-length-3
+same-length-3 c = search needs
+
+same-length-4 : tie.Need-same-length-4
+same-length-4 c = search needs
+
+same-length-5 : tie.Need-same-length-5
+same-length-5 c = search needs
 
 returns : tie.Need-returns
 returns c = search needs
@@ -44,15 +41,14 @@ pub send-spec : {M : Type 1} → statement M
 send-spec =
     tie.close
     (tie.spec
-    slice-aggregate-bits
+    markers-requires
+    phasors-requires
     bits-requires
-    slice-aggregate-points
     points-requires
-    slice-aggregate-modulate
-    slice-aggregate-modulate-2
-    slice-aggregate-modulate-3
     modulate-requires
-    slice-aggregate-signal
-    signal-requires
     same-length
+    same-length-2
+    same-length-3
+    same-length-4
+    same-length-5
     returns)

@@ -1,33 +1,12 @@
--- `replay_inputs::two_frames` is safe: the sizes of the layout 500/4 are computed. Assumes nothing.
-use Prim.Native.Nat.{ℕ, _+_, _*_}
-use mathlib.Core.Path.{_≡_, sym, ap, _∙_}
-use borrow.Author.Needs.{needs}
-use Rattle.refusal.specs.Outcome.{Outcome, refused, answered}
-use Rattle.level.specs.declared.Layout.{Layout}
-use Rattle.level.specs.declared.Chosen.{Chosen}
-use Rattle.level.specs.declared.Chosen.the-variants.{Psk}
-use Rattle.level.specs.Level.{levelOf}
-use Rattle.level.specs.Layout.{layoutOf, chosen, outcome}
-use Rattle.level.specs.Lengths.{rowLength}
+-- `replay_inputs::two_frames` is safe: the sizes of the layout 500/4 are counted. Assumes nothing.
+use mathlib.Core.Path.{sym, ap, _∙_}
+use native.Mathlib.Omega.{arith}
+use Rattle.level.specs.Layout.{outcome}
 use Rattle.level.specs.Rows.{is-layout}
+use Rattle.replay_inputs.specs.Table.{entries-500-4, two-rows-500-4}
+use borrow.Author.Needs.{needs}
 use Rattle.replay_inputs.proofs.two_frames.Statement.{statement}
 use Rattle.replay_inputs.proofs.two_frames.Tie as tie
-
-found : (r : Chosen) (l : Layout) → outcome r ≡ chosen 500 4 → r ≡ Psk l → chosen 500 4 ≡ answered l
-found r l e h = sym e ∙ ap outcome h
-
--- a size of the layout, where there is one
-sizeOf : (Layout → ℕ) → Outcome Layout → ℕ
-sizeOf f (refused k) = 0
-sizeOf f (answered l) = f l
-
-table-size : (l : Layout) → chosen 500 4 ≡ answered l → l .nc * (l .markers + l .nsym) ≡ 822
-unfolding chosen levelOf layoutOf sizeOf
-table-size l e = ap (sizeOf (λ m. m .nc * (m .markers + m .nsym))) (sym e)
-
-rows-size : (l : Layout) → chosen 500 4 ≡ answered l → l .nc * rowLength l 2 ≡ 1590
-unfolding chosen levelOf layoutOf rowLength sizeOf
-rows-size l e = ap (sizeOf (λ m. m .nc * rowLength m 2)) (sym e)
 
 choose-requires : tie.Need-choose-requires
 choose-requires c κs = search needs
@@ -35,8 +14,20 @@ choose-requires c κs = search needs
 enum-known-chosen : tie.Need-enum-known-chosen
 enum-known-chosen c = search needs
 
+slice-aggregate-two-frames-in : tie.Need-slice-aggregate-two-frames-in
+slice-aggregate-two-frames-in c = search needs
+
+slice-aggregate-two-frames-in-2 : tie.Need-slice-aggregate-two-frames-in-2
+slice-aggregate-two-frames-in-2 c = search needs
+
+slice-aggregate-two-frames-in-3 : tie.Need-slice-aggregate-two-frames-in-3
+slice-aggregate-two-frames-in-3 c = search needs
+
 two-frames-in-requires : tie.Need-two-frames-in-requires
-two-frames-in-requires c κs = let e = found _ _ (c .before .before .before .before .before .before .before .choose .ensures) (c .before .before .before .before .before .chosen .given .1) in let s = c .before .before .before .before .before .before .before .before .before .before .before .before in (is-layout _ _ _ e, table-size _ e, rows-size _ e, s .pre .0, s .pre .1, s .pre .2)
+two-frames-in-requires c κs =
+    let e = sym (c .before .before .before .before .before .before .before .before .before .before .choose .ensures) ∙ ap outcome (c .before .before .before .before .before .before .before .before .chosen .given .1) in
+    let s = c .before .before .before .before .before .before .before .before .before .before .before .before .before .before .before in
+    (is-layout _ _ _ e, s .pre .0, omega (arith, s .pre .1, entries-500-4 _ e), omega (arith, two-rows-500-4 _ e), s .pre .2)
 
 enum-known-chosen-2 : tie.Need-enum-known-chosen-2
 enum-known-chosen-2 c = search needs
@@ -65,6 +56,9 @@ two-frames-spec =
     (tie.spec
     choose-requires
     enum-known-chosen
+    slice-aggregate-two-frames-in
+    slice-aggregate-two-frames-in-2
+    slice-aggregate-two-frames-in-3
     two-frames-in-requires
     enum-known-chosen-2
     same-length
