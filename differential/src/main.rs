@@ -19,7 +19,7 @@ use std::process::ExitCode;
 const USAGE: &str = "usage: differential [--cases N] [--seed S]";
 
 fn main() -> ExitCode {
-    let (mut cases, mut seed) = (300, None);
+    let (mut cases, mut seed) = (200, None);
     let mut words = std::env::args().skip(1);
     while let Some(word) = words.next() {
         let value = words.next().and_then(|value| value.parse().ok());

@@ -21,9 +21,8 @@ pub fn run(count: &mut Count) {
     for (program, text) in programs {
         fs::write(written.join(program), &text).expect("target/replays");
         let kept = fs::read_to_string(repository.join("crates").join(program).join("stdout")).unwrap_or_default();
-        // What feed_cases prints of refusals comes after the detections.
-        count.compare("fixed lists", kept.starts_with(&text), || {
-            format!("crates/{program}/stdout doesn't begin as target/replays/{program}, which the reference gives")
+        count.compare("fixed lists", kept == text, || {
+            format!("crates/{program}/stdout isn't target/replays/{program}, which the reference gives")
         });
     }
 }
