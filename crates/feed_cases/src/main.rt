@@ -47,13 +47,20 @@ fn cuttings(markers: &[u16], phasors: &[f64], book: &[f64], memory: &mut [f64], 
     log::show_equal(&even, &drawn, &small);
 }
 
+// The cuttings, over one memory.
+fn receive(markers: &[u16], phasors: &[f64], book: &[f64], signal: &[f64])
+    requires { ⌜ length (now signal) ≤ 2 ^ 32 ⌝ }
+{
+    let mut memory = [0.0; 522816];
+    cuttings(markers, phasors, book, &mut memory, signal);
+}
+
 fn main() {
     let mut book = [0.0; 6000];
     let mut markers = [0u16; 822];
     let mut phasors = [0.0; 1572];
     let mut signal = [0.0; 53600];
-    let mut memory = [0.0; 522816];
     let sent = replay_inputs::two_frames(&mut book, &mut markers, &mut phasors, &mut signal);
-    cuttings(&markers, &phasors, &book, &mut memory, &signal);
+    receive(&markers, &phasors, &book, &signal);
     replay::show_unsent(sent);
 }
