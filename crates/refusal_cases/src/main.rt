@@ -1,6 +1,4 @@
 // Calls that meet a condition, one after the other: the number that each is answered, or 00 where it is accepted.
-mod markers;
-
 use hold::Block;
 use hold::Candidate;
 use hold::Held;
@@ -8,15 +6,12 @@ use hold::Hold;
 use hold::LoneAnswer;
 use level::Chosen;
 use libc::STDOUT_FILENO;
-use markers::MARKERS;
 use meter::Metered;
 use nco::Answer;
 use psk::Sent;
 use refusal::Place;
 use refusal::Position;
-use rx::FeedAnswer;
 use rx::OpenAnswer;
-use rx::State;
 
 fn show(n: u32) {
     let out = [48 + (n / 10 % 10) as u8, 48 + (n % 10) as u8, 10];
@@ -133,24 +128,23 @@ fn offers() {
 }
 
 // A byte of 2, a payload one short; a draw outside the alphabet of two, one draw short; rows one short.
-fn sending() {
+fn sending(markers: &[u16]) {
     let mut bits = [1u8; 748];
     let mut draws = [1u8; 18];
     let mut rows = [0.0; 1608];
     let mut short = [0.0; 1607];
-    let markers = MARKERS;
     let unit = 0.7071067811865476;
-    try_send(&markers, 1.0, 1, &bits, &draws, &mut rows);
-    try_send(&markers, unit, 0, &bits, &draws, &mut rows);
-    try_send(&markers, unit, 5, &bits, &draws, &mut rows);
-    try_send(&markers, unit, 1, &bits[..747], &draws, &mut rows);
-    try_send(&markers, unit, 1, &bits, &draws[..17], &mut rows);
-    try_send(&markers, unit, 1, &bits, &draws, &mut short);
-    try_send(&markers, unit, 1, &bits, &draws, &mut rows);
+    try_send(markers, 1.0, 1, &bits, &draws, &mut rows);
+    try_send(markers, unit, 0, &bits, &draws, &mut rows);
+    try_send(markers, unit, 5, &bits, &draws, &mut rows);
+    try_send(markers, unit, 1, &bits[..747], &draws, &mut rows);
+    try_send(markers, unit, 1, &bits, &draws[..17], &mut rows);
+    try_send(markers, unit, 1, &bits, &draws, &mut short);
+    try_send(markers, unit, 1, &bits, &draws, &mut rows);
     draws[17] = 2;
-    try_send(&markers, unit, 1, &bits, &draws, &mut rows);
+    try_send(markers, unit, 1, &bits, &draws, &mut rows);
     bits[0] = 2;
-    try_send(&markers, unit, 1, &bits, &draws, &mut rows);
+    try_send(markers, unit, 1, &bits, &draws, &mut rows);
 }
 
 fn try_phase(window: usize, phases: &mut [f32], out: &mut [f32]) {
@@ -226,71 +220,19 @@ fn audios() {
     try_audio(&symbols, 0, 16, &waves, &mut phases, &mut out);
 }
 
-// Feeds by the tables of `sending`; the state that the feed leaves.
-fn try_feed(s: State, memory: &mut [f64], book: &[f64], number: u64, samples: &[f64]) -> State {
-    let markers = MARKERS;
-    let phasors = [0.7071067811865476; 1572];
-    let r = rx::feed(
-        500,
-        4,
-        &markers,
-        &phasors,
-        book,
-        s,
-        memory,
-        Position(number),
-        samples,
-    );
-    let answer = r.answer;
-    match answer {
-        FeedAnswer::Accepted(_) => show(0),
-        FeedAnswer::Refused(f) => show(refusal::number(f)),
-    }
-    r.state
-}
-
-// Memory too short, a turn book one short, 4,001 samples, half a sample, a number past the end, parts that are no number or above 2^20; then 4,000 samples, the same again, and one more.
-fn feeding(opened: State) {
-    let book = [1.0; 6000];
-    let mut few = [0.0; 4];
-    let mut memory = [0.0; 522816];
-    let mut samples = [0.5; 8002];
-    let mut s = try_feed(opened, &mut few, &book, 0, &samples[..2]);
-    s = try_feed(s, &mut memory, &book[..5999], 0, &samples[..2]);
-    s = try_feed(s, &mut memory, &book, 0, &samples);
-    s = try_feed(s, &mut memory, &book, 0, &samples[..3]);
-    s = try_feed(s, &mut memory, &book, 1, &samples[..2]);
-    samples[0] = 0.0 / 0.0;
-    s = try_feed(s, &mut memory, &book, 0, &samples[..2]);
-    samples[0] = 1048577.0;
-    s = try_feed(s, &mut memory, &book, 0, &samples[..2]);
-    samples[0] = 1048576.0;
-    s = try_feed(s, &mut memory, &book, 0, &samples[..8000]);
-    s = try_feed(s, &mut memory, &book, 0, &samples[..8000]);
-    try_feed(s, &mut memory, &book, 4000, &samples[..2]);
-}
-
-// An opening, and feeds; then a start of 2^40 and one more, a turn book one short and with a part of 1.5.
-fn receiving() {
-    let markers = MARKERS;
-    let phasors = [0.7071067811865476; 1572];
+// A start of 2^40 and one more, a turn book one short and with a part of 1.5.
+fn openings(markers: &[u16]) {
     let mut book = [1.0; 6000];
-    let r = rx::open(500, 4, &markers, &phasors, Position(0), &book);
-    match r {
-        OpenAnswer::Opened(s) => feeding(s),
-        OpenAnswer::Refused(f) => show(refusal::number(f)),
-    }
-    try_start(1099511627777, &book);
-    try_start(1099511627776, &book);
-    try_start(0, &book[..5999]);
+    try_start(markers, 1099511627777, &book);
+    try_start(markers, 1099511627776, &book);
+    try_start(markers, 0, &book[..5999]);
     book[5999] = 1.5;
-    try_start(0, &book);
+    try_start(markers, 0, &book);
 }
 
-fn try_start(start: u64, book: &[f64]) {
-    let markers = MARKERS;
+fn try_start(markers: &[u16], start: u64, book: &[f64]) {
     let phasors = [0.7071067811865476; 1572];
-    let r = rx::open(500, 4, &markers, &phasors, Position(start), book);
+    let r = rx::open(500, 4, markers, &phasors, Position(start), book);
     match r {
         OpenAnswer::Opened(_) => show(0),
         OpenAnswer::Refused(f) => show(refusal::number(f)),
@@ -298,12 +240,17 @@ fn try_start(start: u64, book: &[f64]) {
 }
 
 fn main() {
+    let mut book = [0.0; 6000];
+    let mut markers = [0u16; 822];
+    let mut phasors = [0.0; 1572];
+    let mut signal = [0.0; 2];
+    replay_inputs::two_frames(&mut book, &mut markers, &mut phasors, &mut signal);
     layouts();
     payloads();
     tables();
-    sending();
+    sending(&markers);
     phases();
     audios();
-    receiving();
+    openings(&markers);
     offers();
 }

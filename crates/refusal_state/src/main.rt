@@ -150,6 +150,13 @@ fn refused_samples(
     try_feed(markers, phasors, book, t, memory, 14546, &samples[..8000])
 }
 
+// Half a sample, and parts of 2^20, the largest that are accepted.
+fn edges(markers: &[u16], phasors: &[f64], book: &[f64], s: State, memory: &mut [f64]) {
+    let largest = [1048576.0; 4];
+    let t = try_feed(markers, phasors, book, s, memory, 14546, &largest[..3]);
+    try_feed(markers, phasors, book, t, memory, 14546, &largest);
+}
+
 // The refusals of a feed between feeds that are accepted.
 fn feeding(
     markers: &[u16],
@@ -164,15 +171,7 @@ fn feeding(
     let s = approach(markers, phasors, book, opened, memory, signal);
     let t = refused_lent(markers, phasors, book, s, memory);
     let u = refused_samples(markers, phasors, book, t, memory);
-    try_feed(
-        markers,
-        phasors,
-        book,
-        u,
-        memory,
-        14546,
-        &signal[27092..27094],
-    );
+    edges(markers, phasors, book, u, memory);
 }
 
 // The refusals 15 and 16 of an opening, to which only tables are lent, then those of a feed.
