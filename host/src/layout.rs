@@ -9,13 +9,13 @@ pub struct Layout {
     pub record: u32,
     /// Carriers (nc).
     pub carriers: usize,
-    /// Symbols of a frame, the reference included (spf).
+    /// Symbols of a frame as the layout's table counts them (spf).
     pub spf: usize,
     /// Markers of a carrier.
     pub markers: usize,
     /// Bits of a data cell (bps).
     pub bps: usize,
-    /// Symbols of a frame that are sent (nsym).
+    /// Symbols of a frame that are sent, its reference first (nsym = spf - 1).
     pub nsym: usize,
     /// Payload bits of a frame (n).
     pub payload: usize,
