@@ -19,7 +19,7 @@ use Rattle.level.specs.Sized.{Sized}
 use Rattle.track.specs.declared.Span.{Span}
 use Rattle.track.specs.Track.{valueAt}
 use Rattle.track.specs.Memory.{partLength, samplesPart, filteredPart, trackIn}
-use Rattle.track.specs.Values.{value-in}
+use Rattle.track.specs.Values.{span-within}
 use Rattle.track.specs.Append.{spanEnd}
 use Rattle.filter.specs.Filter.{turnAt, filteredAt, stepAt, powerOf}
 use Rattle.filter.specs.Carrier.{turned, tapTerm, firAt, stepOf, IsTaps}
@@ -34,7 +34,7 @@ module _
   sample-at i j h k =
       let taps : l .taps ≡ 2 * l .delay + 1 = z .taps-are in
       let p : e + i - l .delay + j - samples .base .0 ≡ e - l .delay - samples .base .0 + (i + j) = omega arith in
-      value-in l m samplesPart samples (e + i - l .delay + j) (omega arith)
+      span-within l m samplesPart samples (e + i - l .delay + j) (omega arith) (omega arith)
       ∙ ap (λ (x : ℕ). cget m (x + (e + i - l .delay + j - samples .base .0))) (zero-mul (partLength l))
       ∙ ap (cget m) (zero-add (e + i - l .delay + j - samples .base .0) ∙ p)
 
@@ -80,7 +80,7 @@ module _ (l : Layout) (m : List Float) (filtered : Span) (e n c at : ℕ) (begun
     (start : at ≡ filteredPart c * partLength l) where
   value-at : (p : ℕ) → filtered .base .0 ≤ p → p < e + n → valueAt (trackIn l m (filteredPart c) filtered) p ≡ cget m (at + (p - filtered .base .0))
   value-at p h k =
-      value-in l m (filteredPart c) filtered p (omega arith) ∙ ap (λ (x : ℕ). cget m (x + (p - filtered .base .0))) (sym start)
+      span-within l m (filteredPart c) filtered p h (omega arith) ∙ ap (λ (x : ℕ). cget m (x + (p - filtered .base .0))) (sym start)
 
   pub step-value : (i : ℕ) → i < n
       → stepOf m at (e - filtered .base .0 + i) ≡ stepAt (filtered .base .0) (valueAt (trackIn l m (filteredPart c) filtered)) (e + i)

@@ -1,12 +1,13 @@
 -- A track that is a part of an endless row: what an append and a read make of it. Assumes nothing.
 use Prim.Native.Nat.{ℕ, _+_, _-_, _≤_, _<_}
-use mathlib.Core.Path.{_≡_}
+use mathlib.Core.Path.{_≡_, _∙_}
 use mathlib.Core.List.{_++_}
 use native.Mathlib.Omega.{arith}
 use lib.ListN.{drop}
 use Rattle.complex.specs.declared.Complex.{Complex}
 use Rattle.track.specs.Window.{window, length-window, getD-window, window-ext, window-append, window-drop}
 use Rattle.track.specs.Track.{endOf, valueAt, trimmedBase, append}
+use Rattle.track.specs.Values.{value-from}
 use Rattle.track.specs.Trims.{Trimmed, trimmed}
 use Rattle.modem.specs.Ideal.{part}
 
@@ -32,7 +33,7 @@ unfolding part
 part-value f b e i h k =
     let p : b + (i - b) ≡ i = omega arith in
     let j : i - b < e - b = omega arith in
-    rw (getD-window, p)
+    value-from (part f b e) i h ∙ rw (getD-window, p)
 
 pub part-append : (keep : ℕ) (f g : ℕ → Complex) (b e n : ℕ) → b ≤ e → ((i : ℕ) → e ≤ i → i < e + n → g i ≡ f i)
     → append keep (part f b e) (window g e n) ≡ part f (trimmedBase keep b (e + n)) (e + n)

@@ -7,9 +7,9 @@ use native.Mathlib.Omega.{arith}
 use lib.ListN.{length, getD, length-map, List·getD-map}
 use lib.Ieee.{Float, nan}
 use Rattle.complex.specs.declared.Complex.{Complex}
-use Rattle.complex.specs.Arithmetic.{cx, czero, cmul}
+use Rattle.complex.specs.Arithmetic.{cx, cmul}
 use Rattle.complex.specs.Sums.{sumTo, sum-ext}
-use Rattle.complex.specs.Pairs.{cget, parts, getD-pairs, pairs-parts, length-parts, complexes-at}
+use Rattle.complex.specs.Pairs.{cget, parts, getD-pairs, pairs-parts, length-parts}
 use Rattle.level.specs.declared.Layout.{Layout}
 use Rattle.level.specs.Lengths.{memoryLength}
 use Rattle.level.specs.Rows.{IsLayout}
@@ -19,17 +19,14 @@ use Rattle.dat.specs.Accepted.{Markers}
 use Rattle.track.specs.declared.Span.{Span}
 use Rattle.track.specs.Track.{valueAt}
 use Rattle.track.specs.Memory.{partLength, trackIn}
+use Rattle.track.specs.Values.{span-within}
+use Rattle.track.specs.Append.{spanEnd}
 use Rattle.chi.specs.declared.Sum.{Sum}
 use Rattle.chi.specs.Table.{cellsIn, partOf, placeOf, referenceFor, referenceIn, Tabled}
 use Rattle.chi.specs.Cells.{cells-in-frame, place-within}
 use Rattle.chi.specs.Dot.{dotTerm, dotAt, DotFits}
 use Rattle.search.specs.Chi.{cellPosition, cellSum}
 use Rattle.search.specs.Fits.{Within}
-
--- a track's value, by its place in the memory
-value-in : (l : Layout) (memory : List Float) (k m : ℕ) (span : Span) → m - span .base .0 < span .len → valueAt (trackIn l memory k span) m ≡ cget memory (k * partLength l + (m - span .base .0))
-unfolding trackIn
-value-in l memory k m span h = complexes-at memory (k * partLength l) (span .len) (m - span .base .0) czero h
 
 -- an entry of a list, whatever is said past its end
 default : {A : Type 0} (xs : List A) (k : ℕ) (d e : A) → k < length xs → getD xs k d ≡ getD xs k e
@@ -97,6 +94,7 @@ module _ (sum : Sum) (l : Layout) (markers : List ℕ) (phasors : List Float) (i
           let e = place-at k K in
           let b = w .begun in
           let h = w .inside in
-          let a : cellPosition l p (at k) - span .base .0 < span .len = omega arith in
+          let a : span .base .0 ≤ cellPosition l p (at k) = omega arith in
+          let q : cellPosition l p (at k) < spanEnd span = omega arith in
           let j : partOf sum (at k .carrier) * partLength l + (cellPosition l p (at k) - span .base .0) ≡ getD offs k 0 + (p - span .base .0) = omega arith in
-          value-in l memory (partOf sum (at k .carrier)) (cellPosition l p (at k)) span a ∙ ap (cget memory) j
+          span-within l memory (partOf sum (at k .carrier)) span (cellPosition l p (at k)) a q ∙ ap (cget memory) j

@@ -2,7 +2,7 @@
 use Prim.Native.Nat.{ℕ, _+_, _-_, _*_}
 use mathlib.Core.Bool.{cond}
 use mathlib.Core.List.{List, _++_}
-use lib.Dec.{ltb}
+use lib.Dec.{ltb, leb}
 use lib.ListN.{length, getD, drop}
 use Rattle.complex.specs.declared.Complex.{Complex}
 use Rattle.complex.specs.Arithmetic.{czero}
@@ -16,9 +16,9 @@ pub record Track : Type 0 where
 abbrev pub endOf : Track → ℕ
 endOf t = t .base + length (t .values)
 
--- the value at position i of the track
-abbrev pub valueAt : Track → ℕ → Complex
-valueAt t i = getD (t .values) (i - t .base) czero
+-- the value at position i. DECISIONS, "A value outside its track": "Reads as zero, both parts +0", on either side
+unfoldable pub valueAt : Track → ℕ → Complex
+valueAt t i = cond (leb (t .base) i) (getD (t .values) (i - t .base) czero) czero
 
 -- "After an append longer than 2 × keep, the newest keep remain": the base, where a track from b then ends at e
 unfoldable pub trimmedBase : ℕ → ℕ → ℕ → ℕ
