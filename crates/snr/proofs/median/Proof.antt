@@ -1,0 +1,27 @@
+-- `snr::median` meets its contract: its room has a place for each product. Assumes nothing.
+use mathlib.Core.Path.{ap, _∙_}
+use Rattle.complex.specs.Pairs.{cget}
+use Rattle.snr.specs.Median.{medianOf}
+use borrow.Author.Needs.{needs}
+use Rattle.snr.proofs.median.Statement.{statement}
+use Rattle.snr.proofs.median.Tie as tie
+
+sub-median-through : tie.Need-sub-median-through
+sub-median-through c = search needs
+
+part-room-start : tie.Need-part-room-start
+part-room-start c = search needs
+
+part-room-end : tie.Need-part-room-end
+part-room-end c = search needs
+
+median-through-requires : tie.Need-median-through-requires
+median-through-requires c κs = search needs
+
+returns : tie.Need-returns
+returns c = c .before .median-through .ensures ∙ ap (medianOf (λ k. cget (c .before .before .before .before .args .prods .now) k)) (search needs)
+
+pub median-spec : {M : Type 1} → statement M
+median-spec =
+    tie.close
+    (tie.spec sub-median-through part-room-start part-room-end median-through-requires returns)
