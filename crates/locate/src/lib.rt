@@ -1,0 +1,156 @@
+// Locating a frame: the best chi around a position (01, "Reading"; `decode` of rx/psk.rs, `argmax` of dsp.rs).
+ghost use mathlib.Core.Path.{_≡_};
+ghost use lib.ListN.{length};
+ghost use Rattle.chi.specs.declared.Sum.the-variants.{Pilot, Data};
+ghost use Rattle.chi.specs.Table.{TableRoom};
+ghost use Rattle.locate.specs.Locate.{locatedAt, betterOf, bestFrom, bestAround};
+ghost use Rattle.search.specs.Fits.{stepsIn, powersIn};
+ghost use Rattle.locate.specs.Fits.{flatAt, ChiFits, FlatFits, LocateFits};
+use chi::Sum;
+use complex::Complex;
+use level::Layout;
+use refusal::Position;
+use search::Chi;
+use track::Span;
+
+// Where a frame stands, with chi and the pilot sum there.
+pub struct Located {
+    pub t: Position,
+    pub chi: f64,
+    pub pilot_sum: Complex,
+}
+
+fn at_position(p: u64, x: Chi) -> Located
+    ensures { λ r. ⌜ r ≡ locatedAt p x ⌝ }
+{
+    let pilot_sum = x.pilot_sum;
+    Located {
+        t: Position(p),
+        chi: x.chi,
+        pilot_sum,
+    }
+}
+
+// The best so far, and position p: the earlier of equals stays.
+fn better(best: Located, p: u64, x: Chi) -> Located
+    ensures { λ r. ⌜ r ≡ betterOf best p x ⌝ }
+{
+    if x.chi > best.chi {
+        return at_position(p, x);
+    }
+    best
+}
+
+// Chi at position p over tables that are built, of tracks from base on.
+fn chi_in(
+    memory: &[f64],
+    marks: &[usize],
+    mark_refs: &[f64],
+    cells: &[usize],
+    cell_refs: &[f64],
+    base: u64,
+    p: u64,
+) -> Chi
+    requires { ⌜ ChiFits (length (now memory)) (now marks) (length (now «mark_refs»)) (now cells) (length (now «cell_refs»)) base p ⌝ }
+    ensures { λ r. ⌜ r ≡ flatAt (now (memory .entry)) (now (marks .entry)) (now («mark_refs» .entry)) (now (cells .entry)) (now («cell_refs» .entry)) base p ⌝ }
+{
+    let n = search::counts_of(marks.len(), cells.len());
+    search::chi_at(
+        memory,
+        marks,
+        mark_refs,
+        cells,
+        cell_refs,
+        n,
+        (p - base) as usize,
+    )
+}
+
+// The best of the seven positions from lo on.
+fn locate_tables(
+    memory: &[f64],
+    marks: &[usize],
+    mark_refs: &[f64],
+    cells: &[usize],
+    cell_refs: &[f64],
+    base: u64,
+    lo: u64,
+) -> Located
+    requires { ⌜ FlatFits (length (now memory)) (now marks) (length (now «mark_refs»)) (now cells) (length (now «cell_refs»)) base lo ⌝ }
+    ensures { λ r. ⌜ r ≡ bestFrom (flatAt (now (memory .entry)) (now (marks .entry)) (now («mark_refs» .entry)) (now (cells .entry)) (now («cell_refs» .entry)) base) lo 6 ⌝ }
+{
+    let first = chi_in(memory, marks, mark_refs, cells, cell_refs, base, lo);
+    let mut best = at_position(lo, first);
+    let mut i: u64 = 0;
+    while i < 6 {
+        i += 1;
+        let x = chi_in(memory, marks, mark_refs, cells, cell_refs, base, lo + i);
+        best = better(best, lo + i, x);
+    }
+    best
+}
+
+// Locating, by way of room for the tables.
+fn locate_through(
+    l: Layout,
+    memory: &[f64],
+    markers: &[u16],
+    phasors: &[f64],
+    step: Span,
+    power: Span,
+    t0: u64,
+    marks: &mut [usize],
+    mark_refs: &mut [f64],
+    cells: &mut [usize],
+    cell_refs: &mut [f64],
+) -> Located
+    requires { ⌜ LocateFits l (record { markers = now markers; phasors = now phasors }) (length (now memory)) step power t0
+        × TableRoom Pilot l (length (now marks)) (length (now «mark_refs»)) × TableRoom Data l (length (now cells)) (length (now «cell_refs»)) ⌝ }
+    ensures { λ r. ⌜ r ≡ bestAround l (record { markers = now (markers .entry); phasors = now (phasors .entry) }) (stepsIn l (now (memory .entry)) step) (powersIn l (now (memory .entry)) power) t0 ⌝ }
+{
+    chi::table(l, markers, phasors, Sum::Pilot, marks, mark_refs);
+    chi::table(l, markers, phasors, Sum::Data, cells, cell_refs);
+    locate_tables(
+        memory,
+        marks,
+        mark_refs,
+        cells,
+        cell_refs,
+        step.base.0,
+        t0 - 3,
+    )
+}
+
+// The first of the best chi among t0 - 3 to t0 + 3.
+pub fn locate_in(
+    l: Layout,
+    memory: &[f64],
+    markers: &[u16],
+    phasors: &[f64],
+    step: Span,
+    power: Span,
+    t0: u64,
+) -> Located
+    requires { ⌜ LocateFits l (record { markers = now markers; phasors = now phasors }) (length (now memory)) step power t0 ⌝ }
+    ensures { λ r. ⌜ r ≡ bestAround l (record { markers = now (markers .entry); phasors = now (phasors .entry) }) (stepsIn l (now (memory .entry)) step) (powersIn l (now (memory .entry)) power) t0 ⌝ }
+{
+    let m = l.nc * chi::per_carrier(l, Sum::Pilot);
+    let n = l.nc * chi::per_carrier(l, Sum::Data);
+    let mut marks = [0usize; 40];
+    let mut mark_refs = [0.0; 80];
+    let mut cells = [0usize; 1500];
+    let mut cell_refs = [0.0; 3000];
+    locate_through(
+        l,
+        memory,
+        markers,
+        phasors,
+        step,
+        power,
+        t0,
+        &mut marks[0..m],
+        &mut mark_refs[0..2 * m],
+        &mut cells[0..n],
+        &mut cell_refs[0..2 * n],
+    )
+}
