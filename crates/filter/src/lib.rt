@@ -49,7 +49,7 @@ fn turn(
 }
 
 // The sum over the first `count` taps, from place i of v on.
-fn fir_at(v: &[f64], taps: &[f64], count: usize, i: usize) -> Complex
+pub fn fir_at(v: &[f64], taps: &[f64], count: usize, i: usize) -> Complex
     requires { ⌜ (2 * (i + count) ≤ length (now v)) × (count ≤ length (now taps)) ⌝ }
     ensures { λ r. ⌜ r ≡ firAt (now (v .entry)) (now (taps .entry)) count i ⌝ }
 {

@@ -1,0 +1,89 @@
+-- Symbol k of all of a frame: its carrier, its number there and its phasor; and a symbol among all. Assumes nothing.
+use Prim.Native.Nat.{ℕ, _+_, _*_, _/_, _%_, _<_}
+use mathlib.Core.Path.{_≡_, refl, sym, ap, ap₂, _∙_}
+use mathlib.Core.List.{List}
+use native.Mathlib.Nat.{add-zero, div-add-mod', div-lt-iff-lt-mul, mod-lt, mul-add-div-right, div-eq-of-lt}
+use native.Mathlib.Nat.{mul-add-mod-self-right, mod-eq-of-lt}
+use native.Mathlib.Omega.{arith}
+use lib.ListN.{length, getD}
+use lib.Ieee.{Float}
+use borrow.Author.Tests.{eq-eqb, ne-eqb}
+use Rattle.complex.specs.declared.Complex.{Complex}
+use Rattle.complex.specs.Arithmetic.{czero, cmul}
+use Rattle.complex.specs.Lists.{tabulate, getD-tabulate}
+use Rattle.complex.specs.Pairs.{cget, cfilled}
+use Rattle.level.specs.declared.Layout.{Layout}
+use Rattle.level.specs.Rows.{IsLayout}
+use Rattle.level.specs.Sized.{sized}
+use Rattle.dat.specs.Accepted.{row-in}
+use Rattle.dat.specs.Cells.{phasor}
+use Rattle.track.specs.declared.Span.{Span}
+use Rattle.filter.specs.Carrier.{IsTaps}
+use Rattle.symbols.specs.Symbols.{driftLength, filteredSymbol, symbolAt, symbolsAt}
+use Rattle.symbols.specs.Standing.{samplesIn, filteredIn, turnedAt, rowSymbol, filteredIth, driftIth}
+use Rattle.symbols.specs.DriftLaws.{drift-is}
+
+pub record Numbered (l : Layout) (k : ℕ) : Type 0 where
+  pub carrier : k / l .nsym < l .nc
+  pub symbol : k % l .nsym < l .nsym
+  pub number : k / l .nsym * l .nsym + k % l .nsym ≡ k
+
+pub numbered : (l : Layout) (k : ℕ) → IsLayout l → k < l .nc * l .nsym → Numbered l k
+numbered l k i h =
+    let some : 0 < l .nsym = omega (arith, sized l i .nsym-least) in
+    record {
+      carrier = div-lt-iff-lt-mul {k = l .nsym} {x = k} {y = l .nc} some .1 h;
+      symbol = mod-lt k some;
+      number = div-add-mod' k (l .nsym);
+    }
+
+-- ---- entry k of row i, of rows of w
+pub quotient : (w i k : ℕ) → k < w → (i * w + k) / w ≡ i
+quotient w i k h =
+    let p : 0 < w = omega arith in
+    mul-add-div-right p i k ∙ ap (λ (x : ℕ). i + x) (div-eq-of-lt h) ∙ add-zero i
+
+pub remainder : (w i k : ℕ) → k < w → (i * w + k) % w ≡ k
+remainder w i k h = mul-add-mod-self-right i w k ∙ mod-eq-of-lt h
+
+-- ---- symbols of tracks in a memory
+module _ (l : Layout) (memory phasors : List Float) (t : ℕ) where
+  pub filtered-ith : (filtered : Span) (k : ℕ) (v w r : Complex) → IsLayout l → k < l .nc * l .nsym
+      → v ≡ filteredSymbol l (filteredIn l memory filtered) t (k / l .nsym) (k % l .nsym) → w ≡ cget phasors k
+      → r ≡ cmul v w → r ≡ filteredIth l memory phasors filtered t k
+  filtered-ith filtered k v w r i h q p e = e ∙ ap₂ cmul q (p ∙ ap (cget phasors) (sym (numbered l k i h .number)))
+
+  -- symbol s of carrier c, of the carrier's turned samples
+  pub drift-ith : (samples : Span) (drift taps v v₀ : List Float) (c : ℕ) → IsLayout l → c < l .nc → IsTaps l taps
+      → v ≡ cfilled (turnedAt l drift (samplesIn l memory samples) t c) (driftLength l) v₀ → (s : ℕ) → s < l .nsym
+      → rowSymbol l v taps phasors c s ≡ driftIth l memory phasors samples drift t (c * l .nsym + s)
+  drift-ith samples drift taps v v₀ c i C a e s S =
+      rw (quotient (l .nsym) c s S, remainder (l .nsym) c s S)
+      (ap (λ (y : Complex). cmul y (phasor l phasors c s))
+      (drift-is l i drift taps v v₀ (samplesIn l memory samples) t c s C S a e))
+
+  -- all, where the drift rows are empty, or aren't
+  module _ (samples filtered : Span) (drift : List Float) where
+    pub by-filtered : length drift ≡ 0
+        → tabulate (filteredIth l memory phasors filtered t) (l .nc * l .nsym)
+        ≡ symbolsAt l phasors drift (samplesIn l memory samples) (filteredIn l memory filtered) t
+    unfolding symbolsAt symbolAt
+    by-filtered d = rw (eq-eqb (length drift) 0 d) refl
+
+    pub by-drift : (length drift ≡ 0 → ⊥)
+        → tabulate (driftIth l memory phasors samples drift t) (l .nc * l .nsym)
+        ≡ symbolsAt l phasors drift (samplesIn l memory samples) (filteredIn l memory filtered) t
+    unfolding symbolsAt symbolAt
+    by-drift d = rw (ne-eqb (length drift) 0 d) refl
+
+-- symbol k of carrier c among all
+module _ (l : Layout) (phasors drift : List Float) (samples : ℕ → Complex) (filtered : ℕ → ℕ → Complex)
+    (p c k : ℕ) where
+  pub symbol-among : c < l .nc → k < l .nsym
+      → getD (symbolsAt l phasors drift samples filtered p) (c * l .nsym + k) czero
+      ≡ symbolAt l phasors drift samples filtered p c k
+  unfolding symbolsAt
+  symbol-among C K =
+      getD-tabulate (λ i. symbolAt l phasors drift samples filtered p (i / l .nsym) (i % l .nsym)) (l .nc * l .nsym)
+      (c * l .nsym + k) czero (row-in (l .nc) (l .nsym) c k C K)
+      ∙ rw (quotient (l .nsym) c k K, remainder (l .nsym) c k K)
