@@ -4,4 +4,5 @@ pub mod History
 pub mod Releases
 pub mod HistoryRule
 pub mod LoneOffer
+pub mod LoneCalls
 pub mod Cases
