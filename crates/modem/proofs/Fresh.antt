@@ -36,7 +36,7 @@ module _ (l : Layout) (start : ℕ) (memory : List Float) where
   unfolding openedState trackIn complexes tabulate
   fresh-carrier c = refl
 
-  fresh-view : view l (openedState l start) memory ≡ opened l start
+  pub fresh-view : view l (openedState l start) memory ≡ opened l start
   unfolding view opened openedState trackIn complexes tabulate
   fresh-view =
       rw (tabulate-ext (carrierIn l (openedState l start) memory) (λ c. emptyCarrier (start + l .delay)) (l .nc) (λ c h. fresh-carrier c))

@@ -6,7 +6,14 @@ pub mod Reached
 pub mod Brought
 pub mod Lists
 pub mod Fresh
+pub mod Shown
 pub mod Detections
 pub mod Refused
 pub mod Opened
+pub mod StateFollows
 pub mod Marked
+pub mod Signs
+pub mod Frame
+pub mod InHand
+pub mod Demand3
+pub mod RunRead

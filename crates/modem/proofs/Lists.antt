@@ -23,7 +23,7 @@ use Rattle.search.specs.Search.{reach, searchCount, offersFrom}
 use Rattle.rx.specs.declared.State.{State}
 use Rattle.rx.specs.declared.FeedAnswer.{FeedAnswer}
 use Rattle.rx.specs.declared.FeedAnswer.the-variants.{Accepted, Refused}
-use Rattle.rx.specs.Receiver.{Feed, fed}
+use Rattle.rx.specs.Receiver.{Receiver, Feed, fed}
 use Rattle.rx.specs.View.{view}
 use Rattle.rx.specs.Conditions.{spanEnd}
 use Rattle.rx.specs.Feed.{Given, FedBy}
@@ -31,6 +31,7 @@ use Rattle.rx.specs.Sound.{count-back}
 use Rattle.rx.specs.Numbers.{placeIn, end-grows}
 use Rattle.modem.specs.Ideal.{judgement, endOn, onward, accepted, verdict, verdicts, joined}
 use Rattle.modem.specs.Calls.{Calls, none, next, detections, answersOf}
+use Rattle.modem.specs.FedAll.{fedOn}
 use Rattle.modem.proofs.Local.{offers-join}
 use Rattle.modem.proofs.Judged.{Fits, judged-fits, outcome-is}
 use Rattle.modem.proofs.Reached.{Reached, rowOffers, filtered-end, Stepped, stepped}
@@ -51,8 +52,9 @@ module _ (l : Layout) (i : IsLayout l) (start : ℕ) (x : ℕ → Complex) (b : 
   offersTo s e = rowOffers l start x b (placeIn s) (searchCount l (placeIn s) (filteredEnd l start e))
 
   -- what calls lead to from state s, of which fs are accepted
-  pub record Led (s : State) (fs : List Feed) (vs : List (Outcome (Unit {0}))) (s′ : State) (memory′ : List Float) (rs : List FeedAnswer) : Type 0 where
+  pub record Led (s : State) (memory : List Float) (fs : List Feed) (vs : List (Outcome (Unit {0}))) (s′ : State) (memory′ : List Float) (rs : List FeedAnswer) : Type 0 where
     pub reached : Reached l start x b s′ memory′
+    pub receiver : view l s′ memory′ ≡ fedOn l (view l s memory) fs
     pub room : length memory′ ≡ 2 * memoryLength l
     pub ends : spanEnd (s′ .samples) ≡ spanEnd (s .samples) + length (joined fs)
     pub hold : s′ .hold ≡ holdAfter (s .hold) (offersTo s (spanEnd (s .samples) + length (joined fs)))
@@ -62,14 +64,14 @@ module _ (l : Layout) (i : IsLayout l) (start : ℕ) (x : ℕ → Complex) (b : 
   abbrev pub Leads : State → List Float → List Given → State → List Float → List FeedAnswer → Type 0
   Leads s memory gs s′ memory′ rs =
       Reached l start x b s memory → length memory ≡ 2 * memoryLength l → Agrees x b (spanEnd (s .samples)) (accepted l (spanEnd (s .samples)) gs)
-      → Led s (accepted l (spanEnd (s .samples)) gs) (verdicts l (spanEnd (s .samples)) gs) s′ memory′ rs
+      → Led s memory (accepted l (spanEnd (s .samples)) gs) (verdicts l (spanEnd (s .samples)) gs) s′ memory′ rs
 
   led-none : (s : State) (memory : List Float) → Leads s memory [] s memory []
-  unfolding accepted verdicts joined detections answersOf offersFrom tabulate holdAfter releases
+  unfolding accepted verdicts joined detections answersOf offersFrom tabulate holdAfter releases fedOn
   led-none s memory w room a =
       let e : searchCount l (placeIn s) (filteredEnd l start (spanEnd (s .samples) + 0)) ≡ 0 =
       rw add-zero (count-back (filteredEnd l start (spanEnd (s .samples))) (reach l) (placeIn s) (rw (filtered-end l start x b s memory w) at (w .sound .searched))) in
-      record { reached = w; room = room; ends = sym (add-zero (spanEnd (s .samples))); hold = rw e; released = rw e; answers = refl }
+      record { reached = w; receiver = refl; room = room; ends = sym (add-zero (spanEnd (s .samples))); hold = rw e; released = rw e; answers = refl }
 
   -- two runs of offers
   offers-on : (s s₁ : State) (e k : ℕ) → placeIn s₁ ≡ placeIn s + 2 * searchCount l (placeIn s) (filteredEnd l start e)
@@ -86,12 +88,13 @@ module _ (l : Layout) (i : IsLayout l) (start : ℕ) (x : ℕ → Complex) (b : 
 
     -- a refused call drops out of the list
     led-refused : (n : ℕ) (f : Refusal) → numberOf f ≡ n → (s₁ ≡ s) × (memory₁ ≡ memory) → Agrees x b e (accepted l e gs)
-        → Led s (accepted l e gs) (refused n ∷ verdicts l e gs) s′ memory′ (Refused f ∷ rs)
+        → Led s memory (accepted l e gs) (refused n ∷ verdicts l e gs) s′ memory′ (Refused f ∷ rs)
     unfolding detections answersOf
     led-refused n f q u a =
-        let r : Led s (accepted l e gs) (verdicts l e gs) s′ memory′ rs = rw (u .0) at (rest (rw (u .0, u .1) w) (rw (u .1) room) (rw (u .0) a)) in
+        let r : Led s memory (accepted l e gs) (verdicts l e gs) s′ memory′ rs = rw (u .0, u .1) at (rest (rw (u .0, u .1) w) (rw (u .1) room) (rw (u .0) a)) in
         record {
           reached = r .reached;
+          receiver = r .receiver;
           room = r .room;
           ends = r .ends;
           hold = r .hold;
@@ -101,21 +104,23 @@ module _ (l : Layout) (i : IsLayout l) (start : ℕ) (x : ℕ → Complex) (b : 
 
     -- an accepted one brings its samples
     led-stepped : (f : Feed) (r : Release) → released r [] ≡ fed l f (view l s memory) .released → length memory₁ ≡ length memory
+        → view l s₁ memory₁ ≡ fed l f (view l s memory) .receiver
         → Stepped l start x b s memory f s₁ memory₁ (searchCount l (placeIn s) (filteredEnd l start (e + length (f .samples))))
         → Agrees x b (e + length (f .samples)) (accepted l (e + length (f .samples)) gs)
-        → Led s (f ∷ accepted l (e + length (f .samples)) gs) (answered tt ∷ verdicts l (e + length (f .samples)) gs) s′ memory′ (Accepted r ∷ rs)
-    unfolding detections answersOf joined
-    led-stepped f r q u v a =
+        → Led s memory (f ∷ accepted l (e + length (f .samples)) gs) (answered tt ∷ verdicts l (e + length (f .samples)) gs) s′ memory′ (Accepted r ∷ rs)
+    unfolding detections answersOf joined fedOn
+    led-stepped f r q u shown v a =
         let k : ℕ = length (f .samples) in
         let fs : List Feed = accepted l (e + k) gs in
         let c : spanEnd (s₁ .samples) ≡ e + k = v .ends in
-        let d : Led s₁ fs (verdicts l (e + k) gs) s′ memory′ rs = rw c at (rest (v .reached) (u ∙ room) (rw c a)) in
+        let d : Led s₁ memory₁ fs (verdicts l (e + k) gs) s′ memory′ rs = rw c at (rest (v .reached) (u ∙ room) (rw c a)) in
         let h : length (f .samples ++ joined fs) ≡ k + length (joined fs) = length-append (f .samples) (joined fs) in
         let y : e + length (f .samples ++ joined fs) ≡ e + k + length (joined fs) = rw h (sym (add-assoc e k (length (joined fs)))) in
         let o : offersTo s (e + k + length (joined fs)) ≡ rowOffers l start x b (placeIn s) (searchCount l (placeIn s) (filteredEnd l start (e + k))) ++ offersTo s₁ (e + k + length (joined fs)) =
         offers-on s s₁ (e + k) (length (joined fs)) (v .place) in
         record {
           reached = d .reached;
+          receiver = d .receiver ∙ ap (λ (r : Receiver). fedOn l r fs) shown;
           room = d .room;
           ends = d .ends ∙ ap (λ (n : ℕ). n + length (joined fs)) c ∙ sym y;
           hold = rw (y, o, holdAfter-append, ← v .hold) (rw c at (d .hold));
@@ -126,7 +131,7 @@ module _ (l : Layout) (i : IsLayout l) (start : ℕ) (x : ℕ → Complex) (b : 
         }
 
     led-next : (j : Outcome Feed) → judgement l e g ≡ j → (a : FeedAnswer) → FedBy g s memory a s₁ memory₁ → Agrees x b e (onward j (accepted l (endOn j e) gs))
-        → Led s (onward j (accepted l (endOn j e) gs)) (verdict j ∷ verdicts l (endOn j e) gs) s′ memory′ (a ∷ rs)
+        → Led s memory (onward j (accepted l (endOn j e) gs)) (verdict j ∷ verdicts l (endOn j e) gs) s′ memory′ (a ∷ rs)
     led-next (refused n) h (Refused f) d a =
         let q : refused (numberOf f) ≡ refused n = rw h at (d .answer ∙ outcome-is l i g s memory (w .sound) room) in
         led-refused n f (cc) (d .left) a
@@ -140,8 +145,8 @@ module _ (l : Layout) (i : IsLayout l) (start : ℕ) (x : ℕ → Complex) (b : 
         let q : answered (released r []) ≡ answered (fed l f (view l s memory) .released) = rw h at (d .answer ∙ outcome-is l i g s memory (w .sound) room) in
         let t : Fits l e g f = judged-fits l i g e f h in
         let u = d .left in
-        led-stepped f r (cc) (u .2)
-        (stepped l start x b i s s₁ memory memory₁ f w (t .few) (t .soon) (a .0) (a .1) (u .0) (u .1) (rw (t .feed) (u .3 l (t .own)))) (a .2)
+        let v : view l s₁ memory₁ ≡ fed l f (view l s memory) .receiver = rw (t .feed) (u .3 l (t .own)) in
+        led-stepped f r (cc) (u .2) v (stepped l start x b i s s₁ memory memory₁ f w (t .few) (t .soon) (a .0) (a .1) (u .0) (u .1) v) (a .2)
 
   pub calls-lead : {s s′ : State} {memory memory′ : List Float} {gs : List Given} {rs : List FeedAnswer} → Calls s memory gs s′ memory′ rs → Leads s memory gs s′ memory′ rs
   unfolding accepted verdicts

@@ -1,5 +1,6 @@
--- What follows from the opening and the accepted feeds alone (01, "Reading": "the feeds' samples joined, numbered from start, none trimmed, and each value of
--- the filtered track made with the turn book of the feed that brought its last sample"). No track, no trim, no state. Definitions only.
+-- What follows from the opening and the accepted feeds alone (01, "Reading"): no trim, no state. Definitions only.
+-- "the feeds' samples joined, numbered from start, none trimmed, and each value of the filtered track made with the
+-- turn book of the feed that brought its last sample"
 use Prim.Native.Nat.{ℕ, _+_, _-_, _/_}
 use mathlib.Core.Bool.{Bool, cond}
 use mathlib.Core.List.{List, [], _∷_, _++_}
@@ -32,7 +33,8 @@ use Rattle.rx.specs.Feed.{Given, feedOf}
 unfoldable pub otherCall : Layout → Layout → Bool
 otherCall l k = otherNumbers k (l .bandwidth) (l .rec)
 
--- rows 3 to 7 and 16 to 20, top to bottom, of a feed whose bandwidth and record choose k, to a receiver of layout l whose samples end at e: of 17 the call's layout
+-- rows 3 to 7 and 16 to 20, top to bottom, of a feed whose bandwidth and record choose k, to a receiver of layout l
+-- whose samples end at e: of 17 the call's layout
 unfoldable pub inputFault : Layout → ℕ → Given → Layout → Fault
 inputFault l e g k =
     orElse (tableFault k (g .markers) (g .phasors))
@@ -98,7 +100,8 @@ stepRow l start x b c m = stepAt (start + l .delay) (filteredRow l x b c) m
 unfoldable pub powerRow : Layout → ℕ → (ℕ → Complex) → (ℕ → Feed) → ℕ → ℕ → Complex
 powerRow l start x b c m = powerOf l (stepRow l start x b c m)
 
--- chi at position p, with the tables of the feed in which the search reaches p: the one that brought the last sample that it needs
+-- chi at position p, with the tables of the feed in which the search reaches p: the one that brought the last sample
+-- that it needs
 unfoldable pub chiRow : Layout → ℕ → (ℕ → Complex) → (ℕ → Feed) → ℕ → Float
 chiRow l start x b p = chiAt l (b (p + reach l + l .delay) .tables) (stepRow l start x b) (powerRow l start x b) p
 
@@ -109,7 +112,11 @@ part row b e = record { base = b; values = window row b (e - b) }
 
 unfoldable pub carrierPart : Layout → ℕ → (ℕ → Complex) → (ℕ → Feed) → ℕ → ℕ → ℕ → Carrier
 carrierPart l start x b fb fe c =
-    record { filtered = part (filteredRow l x b c) fb fe; step = part (stepRow l start x b c) fb fe; power = part (powerRow l start x b c) fb fe }
+    record {
+      filtered = part (filteredRow l x b c) fb fe;
+      step = part (stepRow l start x b c) fb fe;
+      power = part (powerRow l start x b c) fb fe;
+    }
 
 -- samples from sb up to se, filtered from fb on
 unfoldable pub receiverOf : Layout → ℕ → (ℕ → Complex) → (ℕ → Feed) → ℕ → ℕ → ℕ → SearchPlace → Hold → Receiver
@@ -122,7 +129,7 @@ receiverOf l start x b sb se fb search hold =
       hold = hold;
     }
 
--- ---- the offers of all feeds: even positions from the first that an opening searches, as many as the filtered end allows
+-- ---- the offers of all feeds: even positions from the first that an opening searches, up to the filtered end
 abbrev pub firstPlace : Layout → ℕ → ℕ
 firstPlace l start = evenUp (start + l .delay + 32)
 

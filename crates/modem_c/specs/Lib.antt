@@ -1,4 +1,6 @@
 pub mod Numbers
 pub mod Calls
+pub mod ReadingCalls
 pub mod Round
 pub mod Series
+pub mod CallLists

@@ -1,8 +1,12 @@
 // The open calls for C (include/dimpstea.h): each answers 0, or the number of the first condition met.
 ghost use mathlib.Core.Path.{_≡_};
+ghost use mathlib.Core.List.{[]};
 ghost use Rattle.psk.specs.Symbols.{sending};
 ghost use Rattle.rx.specs.Feed.{given};
+ghost use Rattle.reading.specs.Read.{asked};
+ghost use Rattle.modem_c.specs.Numbers.{stateOf};
 ghost use Rattle.modem_c.specs.Calls.{sentCode, windowCode, bitsCode, candidateOf, lentRelease, lentState, LayoutCall, ModulateCall, NcoPhaseCall, CarrierAudioCall, PayloadBitsCall, MeterCall, OpenCall, FeedCall, OfferCall};
+ghost use Rattle.modem_c.specs.ReadingCalls.{shortResult, LocateCall, ReadCall};
 
 mod numbers;
 
@@ -12,6 +16,9 @@ use level::Chosen;
 use meter::Metered;
 use nco::Answer;
 use psk::Sent;
+use reading::LocateAnswer;
+use reading::ReadAnswer;
+use refusal::Fault;
 use refusal::Place;
 use refusal::Position;
 use refusal::Refusal;
@@ -248,6 +255,97 @@ pub extern "C" fn dimpstea_offer(
         LoneAnswer::Answered(release) => {
             numbers::write_hold(hold, held_metric, offered.next);
             numbers::write_release(release, released, release_position, release_metric);
+            0
+        }
+    }
+}
+
+// The first of 1 to 7 that is met, or 11: of a call whose result has another length.
+fn short_result(bandwidth: u32, rec: u32, markers: &[u16], phasors: &[f64]) -> u32
+    ensures { λ r. ⌜ r ≡ shortResult bandwidth rec (now (markers .entry)) (now (phasors .entry)) ⌝ }
+{
+    let chosen = level::choose(bandwidth, rec);
+    match chosen {
+        Chosen::Refused(r) => refusal::number(r),
+        Chosen::Psk(l) => {
+            let fault = dat::table_fault(l, markers, phasors);
+            match fault {
+                Fault::Met(r) => refusal::number(r),
+                Fault::Clear => refusal::number(Refusal::Buffer),
+            }
+        }
+    }
+}
+
+// Where the frame at t0 lies. The result's length is met after the tables (1 to 7) and before the state (17).
+#[no_mangle]
+pub extern "C" fn dimpstea_locate(
+    bandwidth: u32,
+    rec: u32,
+    markers: &[u16],
+    phasors: &[f64],
+    state: &[u64],
+    metric: f64,
+    memory: &[f64],
+    t0: u64,
+    t: &mut u64,
+    result: &mut [f64],
+) -> u32
+    ensures { λ r. ⌜ LocateCall (asked bandwidth rec (now (markers .entry)) (now (phasors .entry)) t0 []) (stateOf (now (state .entry)) metric) (now (memory .entry)) (now (t .entry)) (now (result .entry)) r (now (t .exit)) (now (result .exit)) ⌝ }
+{
+    if result.len() != 3 {
+        return short_result(bandwidth, rec, markers, phasors);
+    }
+    let s = numbers::state_of(state, metric);
+    let answer = reading::locate(bandwidth, rec, markers, phasors, s, memory, Position(t0));
+    match answer {
+        LocateAnswer::Refused(r) => refusal::number(r),
+        LocateAnswer::Found(f) => {
+            numbers::write_located(t, result, f);
+            0
+        }
+    }
+}
+
+// A reading at t0. The result's length is met with those of scratch and out buffer, before either is written.
+#[no_mangle]
+pub extern "C" fn dimpstea_read(
+    bandwidth: u32,
+    rec: u32,
+    markers: &[u16],
+    phasors: &[f64],
+    state: &[u64],
+    metric: f64,
+    memory: &[f64],
+    t0: u64,
+    drift: &[f64],
+    scratch: &mut [f64],
+    out: &mut [f64],
+    t: &mut u64,
+    result: &mut [f64],
+) -> u32
+    ensures { λ r. ⌜ ReadCall (asked bandwidth rec (now (markers .entry)) (now (phasors .entry)) t0 (now (drift .entry))) (stateOf (now (state .entry)) metric) (now (memory .entry)) (now (scratch .entry)) (now (out .entry)) (now (t .entry)) (now (result .entry)) r (now (scratch .exit)) (now (out .exit)) (now (t .exit)) (now (result .exit)) ⌝ }
+{
+    if result.len() != 6 {
+        return short_result(bandwidth, rec, markers, phasors);
+    }
+    let s = numbers::state_of(state, metric);
+    let answer = reading::read(
+        bandwidth,
+        rec,
+        markers,
+        phasors,
+        s,
+        memory,
+        Position(t0),
+        drift,
+        scratch,
+        out,
+    );
+    match answer {
+        ReadAnswer::Refused(r) => refusal::number(r),
+        ReadAnswer::Read(f) => {
+            numbers::write_reading(t, result, f);
             0
         }
     }

@@ -4,11 +4,14 @@ ghost use Prim.Native.Nat.{_+_, _≤_};
 ghost use lib.ListN.{length};
 ghost use Rattle.modem_c.specs.Numbers.{narrow, placeOf, blockOf, heldOf, spanAt, holdAt, stateAt, stateOf, placeNumbers, blockNumbers, heldNumbers, heldMetric, holdNumbers, numbersOf, metricOf, layoutNumbers};
 ghost use Rattle.modem_c.specs.Calls.{lentRelease, releaseAfter};
+ghost use Rattle.modem_c.specs.ReadingCalls.{locatedNumbers, readingNumbers};
 use hold::Block;
 use hold::Held;
 use hold::Hold;
 use hold::Release;
 use level::Layout;
+use locate::Located;
+use reading::Reading;
 use refusal::Position;
 use rx::SearchPlace;
 use rx::State;
@@ -287,4 +290,58 @@ pub fn write_release(release: Release, released: &mut u64, position: &mut u64, m
             *metric = m;
         }
     }
+}
+
+fn located_numbers(f: Located) -> [f64; 3]
+    ensures { λ r. ⌜ r ≡ locatedNumbers f ⌝ }
+{
+    let pilot_sum = f.pilot_sum;
+    [f.chi, pilot_sum.re, pilot_sum.im]
+}
+
+fn reading_numbers(f: Reading) -> [f64; 6]
+    ensures { λ r. ⌜ r ≡ readingNumbers f ⌝ }
+{
+    let located = f.located;
+    let pilot_sum = located.pilot_sum;
+    [
+        located.chi,
+        pilot_sum.re,
+        pilot_sum.im,
+        f.g,
+        f.nvar,
+        f.median,
+    ]
+}
+
+fn copy_values(out: &mut [f64], values: &[f64])
+    requires { ⌜ length (now values) ≡ length (now out) ⌝ }
+    ensures { λ _. ⌜ now (out .exit) ≡ now (values .entry) ⌝ }
+{
+    let mut i = 0;
+    while i < out.len() {
+        out[i] = values[i];
+        i += 1;
+    }
+}
+
+pub fn write_located(t: &mut u64, result: &mut [f64], f: Located)
+    requires { ⌜ length (now result) ≡ 3 ⌝ }
+    ensures { λ _. ⌜ (now (t .exit) ≡ f .t .0) × (now (result .exit) ≡ locatedNumbers f) ⌝ }
+{
+    let values = located_numbers(f);
+    let at = f.t;
+    *t = at.0;
+    copy_values(result, &values);
+}
+
+pub fn write_reading(t: &mut u64, result: &mut [f64], f: Reading)
+    requires { ⌜ length (now result) ≡ 6 ⌝ }
+    ensures { λ _. ⌜ (now (t .exit) ≡ f .located .t .0) × (now (result .exit) ≡ readingNumbers f) ⌝ }
+{
+    let values = reading_numbers(f);
+    let located = f.located;
+    let at = located.t;
+    *t = at.0;
+    copy_values(result, &values);
 }

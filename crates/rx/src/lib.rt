@@ -11,9 +11,9 @@ ghost use Rattle.rx.specs.Fed.{FollowedBy, SearchOnFits, SearchedOn, Acc
 ghost use Rattle.rx.specs.Open.{openedState, openOutcome, outcome};
 ghost use Rattle.rx.specs.Conditions.{spanEnd};
 
-mod conditions;
+pub mod conditions;
 mod fault;
-mod places;
+pub mod places;
 
 use filter::Spans;
 use hold::Hold;

@@ -1,0 +1,4 @@
+pub mod Codes
+pub mod FeedLists
+pub mod OpenedLists
+pub mod OfferLists

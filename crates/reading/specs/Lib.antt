@@ -1,0 +1,12 @@
+pub mod Rows
+pub mod Reading
+pub mod Conditions
+pub mod Read
+pub mod Local
+pub mod InMemory
+pub mod Accepted
+pub mod Begun
+pub mod Decoded
+pub mod DecodedLaws
+pub mod AcceptLaws
+pub mod CallLaws
