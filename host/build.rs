@@ -1,4 +1,5 @@
-//! Links the proved static library, which `rt staticlib modem_c` writes to target/staticlib of the repository.
+//! Links the proved static library, libmodem_c.a: from the folder whose absolute path DIMPSTEA_LIB has, or else from
+//! target/staticlib of the repository, where `rt staticlib modem_c` writes it.
 use std::{env, path::PathBuf};
 
 fn main() {

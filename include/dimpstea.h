@@ -2,11 +2,16 @@
  * The open calls of the PSK modem, for C. Link with libmodem_c.a (`rt staticlib modem_c`).
  *
  * Every call answers 0, or the number of the first condition met in document 01, "Where each fault is
- * met". After a refusal nothing lent has changed. No call keeps a pointer, allocates or writes past a length.
+ * met" (the list is below). After a refusal nothing lent has changed, save the scratch after 24. No call keeps a
+ * pointer, allocates or writes past a length.
  *
  * A slice is a pointer and a count of elements. A pointer is never null, not even with a count of 0.
  * Nothing lent for writing overlaps anything else that is lent.
- * A complex number is two doubles, the real part first.
+ * A complex number is two doubles, the real part first. Every length below counts elements of the pointer's
+ * own type, so that a complex number counts as 2.
+ *
+ * Stack, refused calls too: read 280,000 bytes, feed 141,000, locate 46,000, carrier_audio 8,000, any other
+ * 2,000 (measured on x86-64 Linux). It is touched page by page, so that a guard page below it is met.
  */
 #ifndef DIMPSTEA_H
 #define DIMPSTEA_H
@@ -17,6 +22,34 @@
 #ifdef __cplusplus
 extern "C" {
 #endif
+
+/*
+ * The conditions. Each call below names its own, and meets them in this order.
+ *    1 bandwidth not 500, 2300, 2750, or record not 1 to 17
+ *    2 record isn't PSK there
+ *    3 marker table length
+ *    4 marker value outside 5 to spf - 4, or twice on a carrier
+ *    5 a flag not 1 where a value sets it or not 0 elsewhere (value v sets its carrier's flag v - 2)
+ *    6 phasor count not nc x nsym
+ *    7 phasor part not finite, or squared size outside 0.99 to 1.01
+ *    8 frames not 1 to 4
+ *    9 payload length, or a byte above 1
+ *   10 count of draws, or one not below the alphabet size
+ *   11 an out, scratch or result buffer of wrong length
+ *   12 symbol row length, part not finite or above 256 in size
+ *   13 window above 4,096 or past the end
+ *   14 wave row length or part outside -1 to 1; phase outside 0 to f32 TAU
+ *   15 start outside 0 to 2^40
+ *   16 turn book length, or part outside -1 to 1
+ *   17 memory length, or a state that isn't a receiver's of this layout
+ *   18 above 4,000 samples, or half a sample
+ *   19 first sample's number not the sample end, or end past 2^48
+ *   20 sample part not finite or above 2^20 in size
+ *   21 hold, dead, offered or held position outside 0 to 2^48, or a metric not finite
+ *   22 the frame isn't in hand
+ *   23 drift row length or part outside -1 to 1
+ *   24 gain not finite and above 0
+ */
 
 /*
  * The numbers of a layout, in this order: carriers, symbols of a frame (spf), markers of a carrier, bits of
@@ -45,6 +78,17 @@ extern "C" {
  * A hold by itself is DIMPSTEA_HOLD numbers, as 13 to 18 above, and one metric. Another length meets 21.
  */
 #define DIMPSTEA_HOLD 6
+
+/*
+ * What a located frame hands over beside its position t: chi, and the pilot sum's real and imaginary part.
+ */
+#define DIMPSTEA_LOCATED 3
+
+/*
+ * What a reading hands over beside t: chi, the pilot sum's real and imaginary part, the mean norm g, the noise
+ * variance, the median.
+ */
+#define DIMPSTEA_READING 6
 
 /* Conditions 1 2 11. */
 uint32_t dimpstea_layout(uint32_t bandwidth, uint32_t record,
@@ -83,6 +127,9 @@ uint32_t dimpstea_open(uint32_t bandwidth, uint32_t record,
 /*
  * Conditions 1 to 7, 16 to 20. Writes the next state and the memory; *released is 1 where a detection was
  * released, whose position and metric are then written, and 0 otherwise.
+ *
+ * The memory may hold anything at first, and goes with the state from then on. Lengths: book_len 6,000,
+ * samples_len 2 for each sample (at most 8,000), and the others as for dimpstea_locate.
  */
 uint32_t dimpstea_feed(uint32_t bandwidth, uint32_t record,
                        const uint16_t *markers, size_t markers_len,
@@ -93,6 +140,77 @@ uint32_t dimpstea_feed(uint32_t bandwidth, uint32_t record,
                        uint64_t number,
                        const double *samples, size_t samples_len,
                        uint64_t *released, uint64_t *release_position, double *release_metric);
+
+/*
+ * Where a frame lies. Conditions 1 to 7, 11 (a result of another length), 17 22.
+ *
+ * t0 is a released position (any other may be given). Looks at t0 - 3 to t0 + 3, and writes
+ *   *t       the position of greatest chi, the first of equals: the 3 kHz sample of the frame's first symbol
+ *   result   DIMPSTEA_LOCATED numbers: chi and the pilot sum there
+ * and, after a refusal, neither. State and memory are only read.
+ *
+ * With layout numbers nc (carriers), nsym, keep and so on as dimpstea_layout gives them, the lengths are
+ *   markers_len  nc x (markers of a carrier + spf - 1): the values, then the flags, carrier after carrier
+ *   phasors_len  2 x nc x nsym
+ *   state_len    DIMPSTEA_STATE (17 otherwise)
+ *   memory_len   2 x (1 + 3 x nc) x (2 x keep + 4000) (17 otherwise)
+ *   result_len   DIMPSTEA_LOCATED (11 otherwise)
+ *
+ * The frame is in hand from t0 = filtered base + 35 up to
+ * t0 = filtered base + filtered length - 4 - greatest stagger - 32 x (nsym - 1); for any other t0 it is 22.
+ *
+ * Two things are left to the host. The frame ends at t + greatest stagger + 32 x nsym. The frame is still
+ * df = atan2(pilot sum's imaginary part, its real part) x 3000 / (2 pi x 32) Hz too high; it counts as 0 unless
+ * it exceeds 1 Hz in size.
+ */
+uint32_t dimpstea_locate(uint32_t bandwidth, uint32_t record,
+                         const uint16_t *markers, size_t markers_len,
+                         const double *phasors, size_t phasors_len,
+                         const uint64_t *state, size_t state_len, double metric,
+                         const double *memory, size_t memory_len,
+                         uint64_t t0,
+                         uint64_t *t, double *result, size_t result_len);
+
+/*
+ * Reads a frame. Conditions 1 to 7, 11 (scratch, out or result of another length), 17 22 23 24.
+ *
+ * Locates the frame around t0 as dimpstea_locate does with the same t0, and writes
+ *   *t       as dimpstea_locate
+ *   result   DIMPSTEA_READING numbers
+ *   out      the n soft bits: a sign bit that is set means 1 (dimpstea_payload_bits)
+ *   scratch  the received steps, each divided by the mean norm g: nsym - 1 complex numbers for each carrier,
+ *            carrier after carrier, those of symbols 1 to nsym - 1; then 2 x nc doubles of 0
+ * After 24 (g not finite and above 0, as for a silent frame) the scratch holds the steps undivided, the rest of it
+ * 0, and nothing else is written. After any other refusal nothing is written. State and memory are only read.
+ *
+ * Lengths beside those of dimpstea_locate:
+ *   drift_len    0, or 2 x nc x (greatest stagger + 32 x (nsym - 1) + 2 x delay + 2) (23 otherwise)
+ *   scratch_len  2 x nc x nsym (11 otherwise)
+ *   out_len      n (11 otherwise)
+ *   result_len   DIMPSTEA_READING (11 otherwise)
+ *
+ * Without drift rows (drift_len 0) the frame is read from what was filtered as it was fed. With them it is filtered
+ * anew from the samples, each turned by its drift value: carrier after carrier, one complex number, its parts within
+ * -1 to 1, for each position n from t - delay - 1 up to, not including,
+ * t + greatest stagger + 32 x (nsym - 1) + delay + 1. To take out df Hz, the value of a carrier of fc Hz at n is
+ * (cos a, sin a) with a = -2 pi x (fc + df) x n / 3000.
+ *
+ * The t is the one that the reading finds. dimpstea_locate finds it beforehand, given the same t0, state, memory
+ * and tables. Given the located t for t0, a reading looks 3 to either side of it again and may find another.
+ *
+ * With drift rows 22 is also met where t0 is below sample base + delay + 4, so that samples of the frame are no
+ * longer kept. With feeds of at most 3,965 samples that can't be so right after the feed that released t0.
+ */
+uint32_t dimpstea_read(uint32_t bandwidth, uint32_t record,
+                       const uint16_t *markers, size_t markers_len,
+                       const double *phasors, size_t phasors_len,
+                       const uint64_t *state, size_t state_len, double metric,
+                       const double *memory, size_t memory_len,
+                       uint64_t t0,
+                       const double *drift, size_t drift_len,
+                       double *scratch, size_t scratch_len,
+                       double *out, size_t out_len,
+                       uint64_t *t, double *result, size_t result_len);
 
 /* Condition 21. Offers position, with a candidate's metric where has_metric isn't 0, to a hold by itself. */
 uint32_t dimpstea_offer(uint64_t *hold, size_t hold_len, double *held_metric,

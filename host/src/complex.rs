@@ -23,6 +23,11 @@ impl Complex {
     pub fn at_angle(angle: f64) -> Self {
         Self::new(angle.cos(), angle.sin())
     }
+
+    /// The angle, in radians from -pi to pi.
+    pub fn angle(self) -> f64 {
+        self.im.atan2(self.re)
+    }
 }
 
 /// The parts of the numbers, one after the other.

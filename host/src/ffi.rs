@@ -81,6 +81,48 @@ extern "C" {
         release_metric: *mut f64,
     ) -> u32;
 
+    pub fn dimpstea_locate(
+        bandwidth: u32,
+        record: u32,
+        markers: *const u16,
+        markers_len: usize,
+        phasors: *const f64,
+        phasors_len: usize,
+        state: *const u64,
+        state_len: usize,
+        metric: f64,
+        memory: *const f64,
+        memory_len: usize,
+        t0: u64,
+        t: *mut u64,
+        result: *mut f64,
+        result_len: usize,
+    ) -> u32;
+
+    pub fn dimpstea_read(
+        bandwidth: u32,
+        record: u32,
+        markers: *const u16,
+        markers_len: usize,
+        phasors: *const f64,
+        phasors_len: usize,
+        state: *const u64,
+        state_len: usize,
+        metric: f64,
+        memory: *const f64,
+        memory_len: usize,
+        t0: u64,
+        drift: *const f64,
+        drift_len: usize,
+        scratch: *mut f64,
+        scratch_len: usize,
+        out: *mut f64,
+        out_len: usize,
+        t: *mut u64,
+        result: *mut f64,
+        result_len: usize,
+    ) -> u32;
+
     pub fn dimpstea_offer(
         hold: *mut u64,
         hold_len: usize,

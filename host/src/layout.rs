@@ -1,6 +1,11 @@
 use crate::{raw, Refusal};
 
 /// One of the fifteen PSK layouts, with every number that document 01 derives.
+///
+/// # Panics
+///
+/// Nothing of this crate panics, save where it says so, with the numbers that [`Layout::choose`] gave. With numbers
+/// that a host has changed, lengths may be wrong, which the calls refuse, or no lengths at all, which panics.
 #[derive(Clone, Debug, PartialEq, Eq)]
 pub struct Layout {
     /// The bandwidth, in Hz.
@@ -81,12 +86,22 @@ impl Layout {
     }
 
     /// A carrier's frequency, in Hz.
+    ///
+    /// # Panics
+    ///
+    /// Where there is no such carrier.
     pub fn carrier_hz(&self, carrier: usize) -> u64 {
+        assert!(carrier < self.carriers, "a carrier of the layout");
         self.first_hz + carrier as u64 * self.spacing_hz
     }
 
     /// A carrier's stagger, in 3 kHz samples.
+    ///
+    /// # Panics
+    ///
+    /// Where there is no such carrier.
     pub fn stagger(&self, carrier: usize) -> u64 {
+        assert!(carrier < self.carriers, "a carrier of the layout");
         match (self.carriers, carrier) {
             (3, c) => [0, 11, 21][c],
             (_, c) => 16 * (c as u64 % 2),
@@ -98,33 +113,52 @@ impl Layout {
         1 << self.bps
     }
 
-    /// Entries of the marker table: the values, then the flags.
+    /// Entries of the marker table, each a `u16`: the values, then the flags.
     pub fn marker_table_len(&self) -> usize {
         self.carriers * (self.markers + self.spf - 1)
     }
 
-    /// Phasors of all carriers.
+    /// Phasors of all carriers: as many complex numbers, twice as many `f64`.
     pub fn phasor_count(&self) -> usize {
         self.carriers * self.nsym
     }
 
     /// Draws of a sending: a reference for each frame and carrier, and eight leads for each carrier.
+    ///
+    /// A count of frames that no call accepts has some length too: here and below, sums stop at the greatest number.
     pub fn draw_count(&self, frames: usize) -> usize {
-        self.carriers * (frames + 8)
+        self.carriers.saturating_mul(frames.saturating_add(8))
     }
 
-    /// Symbols of a carrier's row: eight leads, the frames, a zero.
+    /// Symbols of a carrier's row: eight leads, the frames, a zero. As many complex numbers, twice as many `f64`.
     pub fn row_len(&self, frames: usize) -> usize {
-        9 + frames * self.nsym
+        frames.saturating_mul(self.nsym).saturating_add(9)
     }
 
     /// Places of a sending's 48 kHz signal.
     pub fn audio_len(&self, frames: usize) -> u64 {
-        16 * (32 * self.row_len(frames) as u64 + self.max_stagger + self.taps as u64 - 1) + 31
+        let samples = (self.row_len(frames) as u64).saturating_mul(32);
+        samples.saturating_add(self.max_stagger + self.taps as u64 - 1).saturating_mul(16).saturating_add(31)
     }
 
-    /// Complex numbers of a receiver's memory.
+    /// Complex numbers of a receiver's memory; twice as many `f64`.
     pub fn memory_len(&self) -> usize {
         (1 + 3 * self.carriers) * (2 * self.keep as usize + 4000)
+    }
+
+    /// Complex numbers of a reading's scratch, nc x nsym; twice as many `f64`.
+    pub fn scratch_len(&self) -> usize {
+        self.carriers * self.nsym
+    }
+
+    /// Complex numbers of a carrier's drift row: positions t - delay - 1 up to, not including,
+    /// t + greatest stagger + 32 x (nsym - 1) + delay + 1.
+    pub fn drift_row_len(&self) -> usize {
+        (self.max_stagger + 2 * self.delay) as usize + 32 * (self.nsym - 1) + 2
+    }
+
+    /// Complex numbers of all drift rows; twice as many `f64`.
+    pub fn drift_len(&self) -> usize {
+        self.carriers * self.drift_row_len()
     }
 }

@@ -2,9 +2,12 @@
 //!
 //! [`raw`] has the open calls as they are: any bandwidth, length, table or state may be given, and a wrong one
 //! is answered with the number that document 01 gives to the first fault met. Above it stand types that keep
-//! lengths and states right: [`Layout`], [`Tables`], [`Sending`], [`Receiver`], [`Hold`].
+//! lengths and states right: [`Layout`], [`Tables`], [`Sending`], [`Receiver`], [`Located`], [`Reading`], [`Hold`].
 //!
-//! What document 01 leaves to the host is made in [`rows`]: the turn book, phasors and wave rows.
+//! What document 01 leaves to the host is made in [`rows`]: the turn book, phasors, wave rows and drift rows.
+//!
+//! The calls need some stack of the thread that makes them: a reading 280,000 bytes, a feed 141,000, locating 46,000
+//! (measured on x86-64 Linux).
 //!
 //! ```
 //! use dimpstea::{rows, Complex, Layout, Receiver, Tables};
@@ -14,8 +17,11 @@
 //! let tables = Tables::new(&layout, &values, vec![Complex::ONE; layout.phasor_count()]);
 //! let book = rows::turn_book();
 //! let mut receiver = Receiver::open(&layout, &tables, 0, &book)?;
-//! let detection = receiver.feed(&tables, &book, &[Complex::ZERO; 4000])?;
-//! assert!(detection.is_none());
+//! if let Some(detection) = receiver.feed(&tables, &book, &[Complex::ZERO; 3000])? {
+//!     let located = receiver.locate(&tables, detection.position)?;
+//!     let reading = receiver.read(&tables, detection.position, &located.drift_rows(&layout))?;
+//!     println!("from {} to {}: {:?}", located.t, located.t_end(&layout), reading.payload(&layout)?);
+//! }
 //! # Ok::<(), dimpstea::Refusal>(())
 //! ```
 
@@ -23,19 +29,25 @@ mod complex;
 mod ffi;
 mod hold;
 mod layout;
+mod located;
 mod payload;
 pub mod raw;
+mod reading;
 mod receiver;
 mod refusal;
 pub mod rows;
 mod sending;
+mod steps;
 mod tables;
 
 pub use complex::{flat, flat_mut, Complex};
 pub use hold::Hold;
 pub use layout::Layout;
+pub use located::Located;
 pub use payload::{meter, payload_bits};
+pub use reading::{ReadRefusal, Reading};
 pub use receiver::{Detection, Receiver, State};
 pub use refusal::Refusal;
 pub use sending::{Audio, Sending};
+pub use steps::Steps;
 pub use tables::Tables;

@@ -1,7 +1,27 @@
 //! The open calls as they are: any numbers and lengths may be given, and nothing is tested on this side.
 //!
 //! Complex numbers are two `f64`, the real part first ([`flat`](crate::flat) gives them so). After a refusal
-//! nothing lent has changed.
+//! nothing lent has changed, save the scratch of [`read`] after 24.
+//!
+//! Lengths, each the count of a slice's own elements, with nc, spf, nsym and n of the layout:
+//!
+//! | slice | length |
+//! |---|---|
+//! | `markers` | nc x (markers + spf - 1) |
+//! | `phasors` | 2 x nc x nsym |
+//! | `payload`, `sent`, `read` | frames x n, and n for [`meter`] |
+//! | `draws` | nc x (frames + 8) |
+//! | `rows`, `symbols` | 2 x nc x (9 + frames x nsym) |
+//! | `phases` | nc |
+//! | `waves` | 2 x nc x window |
+//! | `out` | nc x window for [`nco_phase`], window for [`carrier_audio`], n for [`read`] and [`payload_bits`] |
+//! | `book` | 6,000 |
+//! | `state`, `numbers`, `hold`, `result` | [`STATE`], [`LAYOUT`], [`HOLD`], and [`LOCATED`] or [`READING`] |
+//! | `memory` | 2 x (1 + 3 x nc) x (2 x keep + 4000) |
+//! | `samples` | 2 for each sample, so at most 8,000 |
+//! | `drift` | 0, or 2 x nc x (greatest stagger + 32 x (nsym - 1) + 2 x delay + 2) |
+//! | `scratch` | 2 x nc x nsym |
+//! | `soft` | n |
 use crate::ffi;
 use crate::refusal::judged;
 use crate::{Detection, Refusal};
@@ -10,6 +30,11 @@ use crate::{Detection, Refusal};
 pub const LAYOUT: usize = 13;
 /// How many numbers a receiver's state has, beside its metric; include/dimpstea.h has their order.
 pub const STATE: usize = 19;
+/// How many numbers a located frame hands over beside its position: chi, and the pilot sum's two parts.
+pub const LOCATED: usize = 3;
+/// How many numbers a reading hands over beside its position: chi, the pilot sum's two parts, g, the noise variance,
+/// the median.
+pub const READING: usize = 6;
 /// How many numbers a hold by itself has, beside its metric.
 pub const HOLD: usize = 6;
 
@@ -173,6 +198,93 @@ pub fn feed(
         )
     })?;
     Ok(release.detection())
+}
+
+/// Where the frame around t0 lies: conditions 1 to 7, 11 (a result of another length than [`LOCATED`]), 17 22.
+///
+/// Writes t, which is one of t0 - 3 to t0 + 3, and the result.
+#[allow(clippy::too_many_arguments)]
+pub fn locate(
+    bandwidth: u32,
+    record: u32,
+    markers: &[u16],
+    phasors: &[f64],
+    state: &[u64],
+    metric: f64,
+    memory: &[f64],
+    t0: u64,
+    t: &mut u64,
+    result: &mut [f64],
+) -> Result<(), Refusal> {
+    judged(unsafe {
+        ffi::dimpstea_locate(
+            bandwidth,
+            record,
+            markers.as_ptr(),
+            markers.len(),
+            phasors.as_ptr(),
+            phasors.len(),
+            state.as_ptr(),
+            state.len(),
+            metric,
+            memory.as_ptr(),
+            memory.len(),
+            t0,
+            t,
+            result.as_mut_ptr(),
+            result.len(),
+        )
+    })
+}
+
+/// Reads the frame around t0: conditions 1 to 7, 11 (scratch, out, or a result of another length than
+/// [`READING`]), 17, 22 to 24.
+///
+/// Writes t as [`locate`] does, the result, the soft bits to `out`, and the divided steps to the scratch: nsym - 1
+/// complex numbers for each carrier, carrier after carrier, then zeros. After 24 only the scratch is written, with the
+/// undivided steps. The drift rows are empty, or [`rows::drift`](crate::rows::drift) of the t that `locate` finds from
+/// the same t0.
+#[allow(clippy::too_many_arguments)]
+pub fn read(
+    bandwidth: u32,
+    record: u32,
+    markers: &[u16],
+    phasors: &[f64],
+    state: &[u64],
+    metric: f64,
+    memory: &[f64],
+    t0: u64,
+    drift: &[f64],
+    scratch: &mut [f64],
+    out: &mut [f64],
+    t: &mut u64,
+    result: &mut [f64],
+) -> Result<(), Refusal> {
+    judged(unsafe {
+        ffi::dimpstea_read(
+            bandwidth,
+            record,
+            markers.as_ptr(),
+            markers.len(),
+            phasors.as_ptr(),
+            phasors.len(),
+            state.as_ptr(),
+            state.len(),
+            metric,
+            memory.as_ptr(),
+            memory.len(),
+            t0,
+            drift.as_ptr(),
+            drift.len(),
+            scratch.as_mut_ptr(),
+            scratch.len(),
+            out.as_mut_ptr(),
+            out.len(),
+            t,
+            result.as_mut_ptr(),
+            result.len(),
+        )
+    })
 }
 
 /// Offers a position, with a candidate's metric or none, to a hold by itself: condition 21.

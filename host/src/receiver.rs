@@ -1,4 +1,4 @@
-use crate::{flat, raw, Complex, Layout, Refusal, Tables};
+use crate::{flat, flat_mut, raw, Complex, Layout, Located, ReadRefusal, Reading, Refusal, Steps, Tables};
 
 /// A detection that was released: the position of a frame's first symbol, in 3 kHz samples, and its metric chi.
 #[derive(Clone, Copy, Debug, PartialEq)]
@@ -25,7 +25,7 @@ impl State {
     }
 }
 
-/// A receiver with the memory that it lends to each feed.
+/// A receiver with the memory that it lends to each feed and reading.
 #[derive(Clone, Debug)]
 pub struct Receiver {
     layout: Layout,
@@ -82,17 +82,70 @@ impl Receiver {
         )
     }
 
+    /// Where the frame around `t0`, which is a detection's position, lies: 22 where it isn't in hand.
+    pub fn locate(&self, tables: &Tables, t0: u64) -> Result<Located, Refusal> {
+        let (mut t, mut result) = (0, [0.0; raw::LOCATED]);
+        raw::locate(
+            self.layout.bandwidth,
+            self.layout.record,
+            &tables.markers,
+            flat(&tables.phasors),
+            &self.state.numbers,
+            self.state.metric,
+            &self.memory,
+            t0,
+            &mut t,
+            &mut result,
+        )?;
+        let [chi, re, im] = result;
+        Ok(Located { t, chi, pilot_sum: Complex::new(re, im) })
+    }
+
+    /// Reads the frame around `t0`: 22 where it isn't in hand, 24 where it is silent.
+    ///
+    /// The drift rows are empty, or [`Located::drift_rows`] of the frame that [`locate`](Self::locate) finds from the
+    /// same `t0`: given the located t for `t0`, the frame may move by up to 3 samples once more. With rows, 22 also
+    /// where the frame's samples are no longer kept. A host that feeds at most 3,965 samples at a time has them all
+    /// right after the feed that released the detection.
+    pub fn read(&self, tables: &Tables, t0: u64, drift: &[Complex]) -> Result<Reading, ReadRefusal> {
+        let (mut t, mut result) = (0, [0.0; raw::READING]);
+        let mut scratch = vec![Complex::ZERO; self.layout.scratch_len()];
+        let mut soft = vec![0.0; self.layout.payload];
+        let answer = raw::read(
+            self.layout.bandwidth,
+            self.layout.record,
+            &tables.markers,
+            flat(&tables.phasors),
+            &self.state.numbers,
+            self.state.metric,
+            &self.memory,
+            t0,
+            flat(drift),
+            flat_mut(&mut scratch),
+            &mut soft,
+            &mut t,
+            &mut result,
+        );
+        let steps = Steps::new(&self.layout, scratch);
+        if let Err(refusal) = answer {
+            return Err(ReadRefusal::new(refusal, steps));
+        }
+        let [chi, re, im, g, nvar, median] = result;
+        let located = Located { t, chi, pilot_sum: Complex::new(re, im) };
+        Ok(Reading { located, g, nvar, median, soft, steps })
+    }
+
     /// The state, to be stored.
     pub fn state(&self) -> &State {
         &self.state
     }
 
-    /// The memory, to be stored with the state.
+    /// The memory, to be stored with the state: twice [`Layout::memory_len`] numbers.
     pub fn memory(&self) -> &[f64] {
         &self.memory
     }
 
-    /// A receiver of a stored state and memory. The next feed refuses a wrong one with 17.
+    /// A receiver of a stored state and memory. The next feed or reading refuses a wrong one with 17.
     pub fn resume(layout: &Layout, state: State, memory: Vec<f64>) -> Self {
         Self { layout: layout.clone(), state, memory }
     }

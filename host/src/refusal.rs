@@ -15,7 +15,7 @@ impl Refusal {
         self.0
     }
 
-    /// The condition, in document 01's words.
+    /// The condition, in document 01's words; half a sample has no words there, and meets 18.
     pub const fn meaning(self) -> &'static str {
         match self.0 {
             1 => "bandwidth not 500, 2300, 2750, or record not 1 to 17",
@@ -35,7 +35,7 @@ impl Refusal {
             15 => "start outside 0 to 2^40",
             16 => "turn book length, or part outside -1 to 1",
             17 => "memory length, or a state that isn't a receiver's of this layout",
-            18 => "above 4,000 samples",
+            18 => "above 4,000 samples, or half a sample",
             19 => "first sample's number not the sample end, or end past 2^48",
             20 => "sample part not finite or above 2^20 in size",
             21 => "hold, dead, offered or held position outside 0 to 2^48, or a metric not finite",

@@ -32,9 +32,13 @@ impl Sending {
     }
 
     /// A carrier's symbols.
+    ///
+    /// # Panics
+    ///
+    /// Where there is no such carrier.
     pub fn row(&self, carrier: usize) -> &[Complex] {
-        let len = self.layout.row_len(self.frames);
-        &self.rows[carrier * len..][..len]
+        let mut rows = self.rows.chunks_exact(self.layout.row_len(self.frames));
+        rows.nth(carrier).expect("a carrier of the layout")
     }
 
     /// The 48 kHz signal from its first place on.

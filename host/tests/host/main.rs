@@ -1,0 +1,9 @@
+//! The host's types over the proved library, from a payload sent to a payload read.
+mod drift;
+mod handing_on;
+mod in_hand;
+mod reading;
+mod refusals;
+mod signal;
+mod silence;
+mod words;
