@@ -47,6 +47,48 @@ fn short_root(n: u64) -> SqrtRem
     }
 }
 
+// A guess at the root of a number of 27 or 28 digits: a straight line's, and twice the mean of the guess so far and the quotient by it.
+// Nothing is promised of it but its size: `first_root` tests it.
+fn guess(n: u64) -> u64
+    requires { ⌜ n < 2 ^ 28 ⌝ }
+    ensures { λ r. ⌜ (1 ≤ r) × (r < 2 ^ 29) ⌝ }
+{
+    let s = n / 24576 + 5802;
+    let t = (s + n / s) / 2;
+    (t + n / t) / 2
+}
+
+// A guess whose square is above n, less one.
+fn lowered(n: u64, s: u64) -> u64
+    requires { ⌜ (1 ≤ s) × (s < 2 ^ 29) ⌝ }
+    ensures { λ r. ⌜ r ≤ s ⌝ }
+{
+    if n < s * s {
+        return s - 1;
+    }
+    s
+}
+
+// The same root by a guess, which is tested, and digit by digit where the guess isn't the root: the loop of `short_root` is the slow way.
+fn first_root(n: u64) -> SqrtRem
+    requires { ⌜ n < 2 ^ 28 ⌝ }
+    ensures { λ r. ⌜ RootRem n (r .root) (r .rem) ⌝ }
+{
+    let s = guess(n);
+    let root = lowered(n, s);
+    let square = root * root;
+    if square <= n {
+        let rem = n - square;
+        if rem <= 2 * root {
+            return SqrtRem {
+                root: root,
+                rem: rem,
+            };
+        }
+    }
+    short_root(n)
+}
+
 // The root of n * scale^2 + high * scale + low, from that of n, by a division by twice the root: the quotient is at most one too large.
 fn longer_root(p: SqrtRem, scale: u64, high: u64, low: u64) -> SqrtRem
     requires { ⌜ (p .rem ≤ 2 * p .root) × (p .root < 2 ^ 27) × (scale ≤ 2 * p .root) × (scale ≤ 2 ^ 27) × (high < scale) × (low < scale) ⌝ }
@@ -75,7 +117,7 @@ fn root_digits(m: u64) -> u64
     requires { ⌜ (2 ^ 52 ≤ m) × (m < 2 ^ 54) ⌝ }
     ensures { λ g. ⌜ (g * g ≤ m * 2 ^ 54) × (m * 2 ^ 54 < (g + 1) * (g + 1)) ⌝ }
 {
-    let a = short_root(m / 0x400_0000);
+    let a = first_root(m / 0x400_0000);
     let b = longer_root(a, 0x2000, m % 0x400_0000 / 0x2000, m % 0x2000);
     let c = longer_root(b, 0x800_0000, 0, 0);
     c.root
