@@ -1,16 +1,18 @@
 -- A loop that fills a slice with complex numbers: what it keeps, before it, a turn of it, and the row that it leaves. Assumes nothing.
-use Prim.Native.Nat.{ℕ, _+_, _*_, _<_}
-use mathlib.Core.Path.{_≡_, refl, ap, _∙_}
-use mathlib.Core.List.{List}
+use Prim.Native.Nat.{ℕ, _+_, _-_, _*_, _<_, _≤_}
+use mathlib.Core.Path.{_≡_, refl, sym, ap, _∙_}
+use mathlib.Core.List.{List, _++_}
 use native.Mathlib.Omega.{arith}
-use native.Mathlib.Nat.{zero-add}
-use lib.ListN.{length}
+use native.Mathlib.Nat.{zero-add, le-refl}
+use lib.ListN.{length, drop}
+use lib.Seq.{drop-append-add, drop-drop}
 use lib.Ieee.{Float}
 use Rattle.complex.specs.declared.Complex.{Complex}
-use Rattle.complex.specs.Lists.{tabulate-ext}
-use Rattle.complex.specs.Pairs.{cget, cset, complexes, cfilled, cfilled-none, cfilled-length, cfilled-step, cfilled-at}
+use Rattle.complex.specs.Lists.{tabulate, length-tabulate, tabulate-ext}
+use Rattle.complex.specs.Pairs.{cget, cset, complexes, parts, length-parts, cfilled, cfilled-none, cfilled-length, cfilled-step, cfilled-at}
 use Rattle.track.specs.Window.{window}
-use Rattle.filter.specs.declared.Two.{Two}
+use Rattle.filter.specs.declared.Four.{Four}
+use Rattle.filter.specs.Carrier.{fourOf}
 
 pub record Filling (f : ℕ → Complex) (k : ℕ) (l m : List Float) : Type 0 where
   pub long : length m ≡ length l
@@ -25,13 +27,36 @@ filling-more f k l m r z i h v s =
     let t : r ≡ cfilled f (k + 1) l = s ∙ ap (cset m k) v ∙ cfilled-step f k l m (i .values) h in
     record { long = ap length t ∙ cfilled-length f (k + 1) l (omega arith); values = t }
 
--- a turn that stores two
-pub filling-two : (f : ℕ → Complex) (k : ℕ) (l m p r : List Float) (t : Two) → Filling f k l m → 2 * k + 3 < length l
-    → t ≡ record { first = f k; second = f (k + 1) } → p ≡ cset m k (t .first) → r ≡ cset p (k + 1) (t .second) → Filling f (k + 2) l r
-filling-two f k l m p r t i h v s u =
-    let one : Filling f (k + 1) l p = filling-more f k l m p (t .first) i (omega arith) (ap (λ (t : Two). t .first) v) s in
+-- a turn that stores four
+pub filling-four : (f : ℕ → Complex) (k : ℕ) (l m r : List Float) (t : Four) → Filling f k l m → 2 * k + 7 < length l → t ≡ fourOf f k
+    → r ≡ cset (cset (cset (cset m k (t .first)) (k + 1) (t .second)) (k + 2) (t .third)) (k + 3) (t .fourth) → Filling f (k + 4) l r
+filling-four f k l m r t i h v s =
+    let one = filling-more f k l m _ (t .first) i (omega arith) (ap (λ (t : Four). t .first) v) refl in
+    let two = filling-more f (k + 1) l _ _ (t .second) one (omega arith) (ap (λ (t : Four). t .second) v) refl in
     let e : k + 1 + 1 ≡ k + 2 = omega arith in
-    rw e at (filling-more f (k + 1) l p r (t .second) one (omega arith) (ap (λ (t : Two). t .second) v) u)
+    let three = filling-more f (k + 2) l _ _ (t .third) (rw e at two) (omega arith) (ap (λ (t : Four). t .third) v) refl in
+    let e' : k + 2 + 1 ≡ k + 3 = omega arith in
+    let e'' : k + 3 + 1 ≡ k + 4 = omega arith in
+    rw e'' at (filling-more f (k + 3) l _ r (t .fourth) (rw e' at three) (omega arith) (ap (λ (t : Four). t .fourth) v) s)
+
+-- what is filled up to n was filled up to k before, or not: that leaves no trace
+cfilled-over : (f : ℕ → Complex) (k n : ℕ) (l : List Float) → k ≤ n → cfilled f n (cfilled f k l) ≡ cfilled f n l
+unfolding cfilled
+cfilled-over f k n l h =
+    let p : List Float = parts (tabulate f k) in
+    let e : length p + (2 * n - 2 * k) ≡ 2 * n = omega (arith, length-parts (tabulate f k), length-tabulate f k) in
+    let e' : 2 * k + (2 * n - 2 * k) ≡ 2 * n = omega arith in
+    ap (λ (r : List Float). parts (tabulate f n) ++ r)
+    (rw e at (drop-append-add p (drop (2 * k) l) (2 * n - 2 * k)) ∙ rw e' at (drop-drop (2 * n - 2 * k) (2 * k) l))
+
+module _ (f : ℕ → Complex) (k : ℕ) (l m : List Float) (i : Filling f k l m) where
+  -- the numbers so far are f's
+  pub filling-again : m ≡ cfilled f k m
+  filling-again = i .values ∙ sym (cfilled-over f k k l (le-refl k)) ∙ ap (cfilled f k) (sym (i .values))
+
+  -- another loop that fills it up to n
+  pub filling-rest : (n : ℕ) (r : List Float) → k ≤ n → r ≡ cfilled f n m → r ≡ cfilled f n l
+  filling-rest n r h s = s ∙ ap (cfilled f n) (i .values) ∙ cfilled-over f k n l h
 
 -- a slice that is filled with the values of a row
 pub filled-window : (f g : ℕ → Complex) (e n : ℕ) (l : List Float) → ((i : ℕ) → i < n → f i ≡ g (e + i)) → complexes (cfilled f n l) 0 n ≡ window g e n

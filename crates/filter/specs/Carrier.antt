@@ -21,6 +21,7 @@ use Rattle.track.specs.Memory.{samplesPart, filteredPart, stepPart, powerPart, 
 use Rattle.track.specs.Kept.{PartsKept}
 use Rattle.track.specs.Append.{spanEnd, spanAfter}
 use Rattle.filter.specs.declared.Spans.{Spans}
+use Rattle.filter.specs.declared.Four.{Four}
 use Rattle.filter.specs.Filter.{turnAt}
 use Rattle.filter.specs.Filtered.{filteredAfter, stepsAfter, powersAfter, spansAfter, FilterFits, CarrierFiltered}
 
@@ -35,6 +36,10 @@ tapTerm v taps i j = cscale (cget v (i + j)) (getD taps j nan)
 -- the sum over the first `count` taps, from place i of v on
 unfoldable pub firAt : List Float → List Float → ℕ → ℕ → Complex
 firAt v taps count i = sumTo (tapTerm v taps i) count
+
+-- four numbers of a row, from i on
+abbrev pub fourOf : (ℕ → Complex) → ℕ → Four
+fourOf f i = record { first = f i; second = f (i + 1); third = f (i + 2); fourth = f (i + 3) }
 
 -- the step at a place of the track that starts at place `at`
 unfoldable pub stepOf : List Float → ℕ → ℕ → Complex

@@ -2,11 +2,12 @@
 ghost use mathlib.Core.Path.{_≡_};
 ghost use Prim.Native.Nat.{_+_, _-_, _*_, _^_, _<_, _≤_};
 ghost use lib.ListN.{length};
-ghost use Rattle.complex.specs.Pairs.{cget, cfilled};
+ghost use Rattle.complex.specs.Arithmetic.{cadd, cscale};
+ghost use Rattle.complex.specs.Pairs.{cget, cset, cfilled};
 ghost use Rattle.level.specs.Sized.{Sized};
 ghost use Rattle.filter.specs.Filter.{powerOf};
 ghost use Rattle.filter.specs.Filtered.{spansAfter, FilterFits, Filtered};
-ghost use Rattle.filter.specs.Carrier.{turned, firAt, stepOf, IsTaps, CarrierFits, FilteredMade, StepFits, StepsMade, CarrierMade, CarriersMade, SpansFit};
+ghost use Rattle.filter.specs.Carrier.{turned, firAt, fourOf, stepOf, IsTaps, CarrierFits, FilteredMade, StepFits, StepsMade, CarrierMade, CarriersMade, SpansFit};
 use complex::Complex;
 use level::Layout;
 use track::Span;
@@ -18,10 +19,12 @@ pub struct Spans {
     pub power: Span,
 }
 
-// The sums of two places.
-struct Two {
+// The sums of four places.
+struct Four {
     first: Complex,
     second: Complex,
+    third: Complex,
+    fourth: Complex,
 }
 
 // Turns `count` samples into `out`: those of the memory from place `from` on, of which the first is number `first`.
@@ -62,43 +65,80 @@ pub fn fir_at(v: &[f64], taps: &[f64], count: usize, i: usize) -> Complex
     sum
 }
 
-// The sums of the places i and i + 1, in one loop: neither waits for the other's additions.
-fn fir_two(v: &[f64], taps: &[f64], count: usize, i: usize) -> Two
-    requires { ⌜ (2 * (i + 1 + count) ≤ length (now v)) × (count ≤ length (now taps)) ⌝ }
-    ensures { λ r. ⌜ r ≡ record { first = firAt (now (v .entry)) (now (taps .entry)) count i; second = firAt (now (v .entry)) (now (taps .entry)) count (i + 1) } ⌝ }
+// The sum with one term more: the number at place `at` of v, times its tap.
+fn weigh(sum: Complex, v: &[f64], at: usize, tap: f64) -> Complex
+    requires { ⌜ 2 * at + 1 < length (now v) ⌝ }
+    ensures { λ r. ⌜ r ≡ cadd sum (cscale (cget (now (v .entry)) at) tap) ⌝ }
+{
+    complex::add(sum, complex::scale(complex::get(v, at), tap))
+}
+
+// The sums of the places i to i + 3, in one loop: none waits for another's additions.
+fn fir_four(v: &[f64], taps: &[f64], count: usize, i: usize) -> Four
+    requires { ⌜ (2 * (i + 3 + count) ≤ length (now v)) × (count ≤ length (now taps)) ⌝ }
+    ensures { λ r. ⌜ r ≡ fourOf (firAt (now (v .entry)) (now (taps .entry)) count) i ⌝ }
 {
     let mut first = complex::zero();
     let mut second = complex::zero();
-    let mut here = complex::get(v, i);
+    let mut third = complex::zero();
+    let mut fourth = complex::zero();
     let mut k = 0;
     while k < count {
-        let next = complex::get(v, i + 1 + k);
         let tap = taps[k];
-        first = complex::add(first, complex::scale(here, tap));
-        second = complex::add(second, complex::scale(next, tap));
-        here = next;
+        first = weigh(first, v, i + k, tap);
+        second = weigh(second, v, i + 1 + k, tap);
+        third = weigh(third, v, i + 2 + k, tap);
+        fourth = weigh(fourth, v, i + 3 + k, tap);
         k += 1;
     }
-    Two { first, second }
+    Four {
+        first,
+        second,
+        third,
+        fourth,
+    }
 }
 
-// Fills out with n of these sums, two a turn.
+// Stores four sums, from place i on.
+fn put_four(out: &mut [f64], i: usize, four: Four)
+    requires { ⌜ 2 * (i + 4) ≤ length (now out) ⌝ }
+    ensures { λ _. ⌜ now (out .exit) ≡ cset (cset (cset (cset (now (out .entry)) i (four .first)) (i + 1) (four .second)) (i + 2) (four .third)) (i + 3) (four .fourth) ⌝ }
+{
+    let first = four.first;
+    let second = four.second;
+    let third = four.third;
+    let fourth = four.fourth;
+    complex::put(out, i, first);
+    complex::put(out, i + 1, second);
+    complex::put(out, i + 2, third);
+    complex::put(out, i + 3, fourth);
+}
+
+// Fills out with n of these sums, of which it has the first `from`.
+fn fir_rest(out: &mut [f64], v: &[f64], taps: &[f64], count: usize, from: usize, n: usize)
+    requires { ⌜ (2 * (n + count) ≤ length (now v) + 2) × (count ≤ length (now taps)) × (2 * n ≤ length (now out)) × (from ≤ n) ⌝ }
+    requires { ⌜ now out ≡ cfilled (firAt (now v) (now taps) count) from (now out) ⌝ }
+    ensures { λ _. ⌜ now (out .exit) ≡ cfilled (firAt (now (v .entry)) (now (taps .entry)) count) n (now (out .entry)) ⌝ }
+{
+    let mut at = from;
+    while at < n {
+        complex::put(out, at, fir_at(v, taps, count, at));
+        at += 1;
+    }
+}
+
+// Fills out with n of these sums, four a turn.
 fn fir(out: &mut [f64], v: &[f64], taps: &[f64], count: usize, n: usize)
     requires { ⌜ (2 * (n + count) ≤ length (now v) + 2) × (count ≤ length (now taps)) × (2 * n ≤ length (now out)) ⌝ }
     ensures { λ _. ⌜ now (out .exit) ≡ cfilled (firAt (now (v .entry)) (now (taps .entry)) count) n (now (out .entry)) ⌝ }
 {
     let mut i = 0;
-    while i + 1 < n {
-        let two = fir_two(v, taps, count, i);
-        let first = two.first;
-        let second = two.second;
-        complex::put(out, i, first);
-        complex::put(out, i + 1, second);
-        i += 2;
+    while i + 3 < n {
+        let four = fir_four(v, taps, count, i);
+        put_four(out, i, four);
+        i += 4;
     }
-    if i < n {
-        complex::put(out, i, fir_at(v, taps, count, i));
-    }
+    fir_rest(out, v, taps, count, i, n);
 }
 
 // Appends n values, from position e on, to the filtered track of carrier c. There are at most 4,000, from 128 samples more.
