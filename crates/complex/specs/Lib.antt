@@ -2,3 +2,4 @@ pub mod Arithmetic
 pub mod Lists
 pub mod Sums
 pub mod Pairs
+pub mod Rows

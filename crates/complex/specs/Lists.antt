@@ -73,3 +73,9 @@ filled-at f n k l d h =
 pub filled-all {ℓ} : {A : Type ℓ} (f : ℕ → A) (l : List A) → filled f (length l) l ≡ tabulate f (length l)
 unfolding filled
 filled-all f l = rw (drop-length l) (append-nil (tabulate f (length l)))
+
+-- an entry of a list, whatever is read past its end
+pub getD-default {ℓ} : {A : Type ℓ} (xs : List A) (k : ℕ) (d e : A) → k < length xs → getD xs k d ≡ getD xs k e
+getD-default [] k d e h = absurd (omega arith)
+getD-default (x ∷ xs) zero d e h = refl
+getD-default (x ∷ xs) (suc k) d e h = getD-default xs k d e (le-of-suc-le-suc h)

@@ -9,7 +9,7 @@ use lib.Seq.{drop-nil, drop-cons, set-at, take-at, append-snoc}
 use lib.Ieee.{Float, nan}
 use Rattle.complex.specs.declared.Complex.{Complex}
 use Rattle.complex.specs.Arithmetic.{cx}
-use Rattle.complex.specs.Lists.{tabulate, length-tabulate, getD-tabulate}
+use Rattle.complex.specs.Lists.{tabulate, length-tabulate, getD-tabulate, getD-default}
 
 -- the k-th complex number of a list of parts
 abbrev pub cget : List Float → ℕ → Complex
@@ -148,3 +148,15 @@ complexes-length xs off n = length-tabulate (λ k. cget xs (off + k)) n
 pub complexes-at : (xs : List Float) (off n k : ℕ) (d : Complex) → k < n → getD (complexes xs off n) k d ≡ cget xs (off + k)
 unfolding complexes
 complexes-at xs off n k d h = getD-tabulate (λ k. cget xs (off + k)) n k d h
+
+-- a number of a list that is made by its index
+pub parts-at : (f : ℕ → Complex) (n k : ℕ) → k < n → cget (parts (tabulate f n)) k ≡ f k
+parts-at f n k h =
+    let xs = parts (tabulate f n) in
+    let len : length xs ≡ 2 * n = length-parts (tabulate f n) ∙ ap (λ (x : ℕ). 2 * x) (length-tabulate f n) in
+    sym (getD-pairs xs k (omega arith)) ∙ rw pairs-parts (getD-tabulate f n k (cx nan nan) h)
+
+-- a number of a list of parts
+pub pair-at : (n : ℕ) (xs : List Float) (k : ℕ) (d : Complex) → length xs ≡ 2 * n → k < n → cget xs k ≡ getD (pairs xs) k d
+pair-at n xs k d e h =
+    sym (getD-pairs xs k (omega arith)) ∙ getD-default (pairs xs) k (cx nan nan) d (rw (length-pairs n xs e) h)

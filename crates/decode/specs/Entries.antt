@@ -1,20 +1,21 @@
 -- Entries of what is packed by carrier, in lent scratch and as complex numbers. Assumes nothing.
-use Prim.Native.Nat.{ℕ, zero, suc, _+_, _-_, _*_, _/_, _%_, _≤_, _<_}
-use mathlib.Core.Path.{_≡_, refl, sym, ap, ap₂, _∙_}
+use Prim.Native.Nat.{ℕ, zero, suc, _+_, _-_, _*_, _≤_, _<_}
+use mathlib.Core.Path.{_≡_, sym, ap, ap₂, _∙_}
 use mathlib.Core.Bool.{cond}
 use mathlib.Core.List.{List, [], _∷_, _++_, append-assoc, append-nil}
 use native.Mathlib.Omega.{arith}
-use native.Mathlib.Nat.{add-zero, add-suc, le-of-suc-le-suc, mul-le-mul-left, mul-add-div-right, div-eq-of-lt, mul-add-mod-self-right, mod-eq-of-lt, lt-of-lt-of-le}
+use native.Mathlib.Nat.{add-zero, add-suc, mul-le-mul-left, lt-of-lt-of-le}
 use lib.Dec.{ltb}
-use lib.ListN.{length, getD, drop}
+use lib.ListN.{length, drop}
 use lib.Seq.{drop-at}
-use lib.Ieee.{Float, nan}
+use lib.Ieee.{Float}
 use borrow.Author.Tests.{lt-ltb, le-ltb}
 use Rattle.complex.specs.declared.Complex.{Complex}
-use Rattle.complex.specs.Arithmetic.{cx, czero, cdiv}
-use Rattle.complex.specs.Lists.{tabulate, length-tabulate, getD-tabulate, tabulate-ext}
+use Rattle.complex.specs.Arithmetic.{czero}
+use Rattle.complex.specs.Lists.{tabulate, length-tabulate, tabulate-ext}
 use Rattle.complex.specs.Sums.{fsum-ext}
-use Rattle.complex.specs.Pairs.{cget, cfilled, pairs, parts, length-parts, parts-append, length-pairs, getD-pairs, pairs-parts}
+use Rattle.complex.specs.Pairs.{cget, cfilled, parts, length-parts, parts-append, parts-at}
+use Rattle.complex.specs.Rows.{quotient, remainder}
 use Rattle.root.specs.Root.{normOf}
 use Rattle.constellation.specs.Alphabet.{alphabet}
 use Rattle.level.specs.declared.Layout.{Layout}
@@ -24,34 +25,12 @@ use Rattle.decode.specs.Steps.{stepCount, receivedIn, scratchOf}
 use Rattle.decode.specs.Noise.{varianceOf}
 use Rattle.decode.specs.SoftBits.{receivedAt, softIn, softAt}
 
--- ---- entry k of row i, of rows of w
-pub quotient : (w i k : ℕ) → k < w → (i * w + k) / w ≡ i
-quotient w i k h = let p : 0 < w = omega arith in mul-add-div-right p i k ∙ ap (λ (x : ℕ). i + x) (div-eq-of-lt h) ∙ add-zero i
-
-pub remainder : (w i k : ℕ) → k < w → (i * w + k) % w ≡ k
-remainder w i k h = mul-add-mod-self-right i w k ∙ mod-eq-of-lt h
-
 -- bit b of cell i
 pub soft-is : (l : Layout) (table : List ℕ) (z : List Complex) (i b : ℕ) → b < l .bps
-    → softAt l table z (i * l .bps + b) ≡ softBit (l .bps) (alphabet (l .bps)) b (receivedAt l table z i) (varianceOf l table z)
+    → softAt l table z (i * l .bps + b)
+    ≡ softBit (l .bps) (alphabet (l .bps)) b (receivedAt l table z i) (varianceOf l table z)
 unfolding softAt softIn receivedIn
 soft-is l table z i b B = rw (quotient (l .bps) i b B, remainder (l .bps) i b B)
-
--- ---- complex numbers in a list of their parts
-entry-in : {A : Type 0} (xs : List A) (k : ℕ) (d e : A) → k < length xs → getD xs k d ≡ getD xs k e
-entry-in [] k d e h = absurd (omega arith)
-entry-in (x ∷ xs) zero d e h = refl
-entry-in (x ∷ xs) (suc k) d e h = entry-in xs k d e (le-of-suc-le-suc h)
-
-pub pair-at : (n : ℕ) (xs : List Float) (k : ℕ) → length xs ≡ 2 * n → k < n → cget xs k ≡ getD (pairs xs) k czero
-pair-at n xs k e h =
-    sym (getD-pairs xs k (omega arith)) ∙ entry-in (pairs xs) k (cx nan nan) czero (rw (length-pairs n xs e) h)
-
-pub part-at : (f : ℕ → Complex) (n k : ℕ) → k < n → cget (parts (tabulate f n)) k ≡ f k
-part-at f n k h =
-    let xs = parts (tabulate f n) in
-    let len : length xs ≡ 2 * n = length-parts (tabulate f n) ∙ ap (λ (x : ℕ). 2 * x) (length-tabulate f n) in
-    sym (getD-pairs xs k (omega arith)) ∙ rw pairs-parts (getD-tabulate f n k (cx nan nan) h)
 
 -- ---- a list in two pieces
 tabulate-split : {A : Type 0} (f : ℕ → A) (a b : ℕ) → tabulate f (a + b) ≡ tabulate f a ++ tabulate (λ k. f (a + k)) b
@@ -63,7 +42,8 @@ tabulate-split {A} f a (suc b) =
     ∙ append-assoc (tabulate f a) (tabulate (λ k. f (a + k)) b) (f (a + b) ∷ [])
 
 -- the first n of N numbers written anew
-module _ (f h g : ℕ → Complex) (n m N : ℕ) (all : n + m ≡ N) (first : (k : ℕ) → k < n → g k ≡ f k) (rest : (k : ℕ) → g (n + k) ≡ h (n + k)) where
+module _ (f h g : ℕ → Complex) (n m N : ℕ) (all : n + m ≡ N)
+    (first : (k : ℕ) → k < n → g k ≡ f k) (rest : (k : ℕ) → g (n + k) ≡ h (n + k)) where
   pub refilled : cfilled f n (parts (tabulate h N)) ≡ parts (tabulate g N)
   unfolding cfilled
   refilled =
@@ -73,18 +53,21 @@ module _ (f h g : ℕ → Complex) (n m N : ℕ) (all : n + m ≡ N) (first : (k
       let b = tabulate (λ k. h (n + k)) m in
       let len : length (parts a) ≡ 2 * n = length-parts a ∙ ap (λ (x : ℕ). 2 * x) (length-tabulate h n) in
       let u : drop (2 * n) (parts (tabulate h (n + m))) ≡ parts b =
-      ap (λ (x : List Complex). drop (2 * n) (parts x)) (tabulate-split h n m) ∙ ap (drop (2 * n)) (parts-append a b) ∙ drop-at (parts a) (parts b) (2 * n) len in
+      ap (λ (x : List Complex). drop (2 * n) (parts x)) (tabulate-split h n m)
+      ∙ ap (drop (2 * n)) (parts-append a b) ∙ drop-at (parts a) (parts b) (2 * n) len in
       ap (λ (x : List Float). parts (tabulate f n) ++ x) u
       ∙ sym (parts-append (tabulate f n) b)
       ∙ ap parts
       (sym
-      (tabulate-split g n m ∙ ap₂ (λ (x y : List Complex). x ++ y) (tabulate-ext g f n first) (tabulate-ext (λ k. g (n + k)) (λ k. h (n + k)) m (λ k K. rest k)))))
+      (tabulate-split g n m
+      ∙ ap₂ (λ (x y : List Complex). x ++ y) (tabulate-ext g f n first)
+      (tabulate-ext (λ k. g (n + k)) (λ k. h (n + k)) m (λ k K. rest k)))))
 
 -- ---- the scratch
 module _ (l : Layout) (u : ℕ → Complex) where
   pub scratch-at : (k : ℕ) → k < l .nc * l .nsym → cget (scratchOf l u) k ≡ cond (ltb k (stepCount l)) (u k) czero
   unfolding scratchOf
-  scratch-at k h = part-at (λ k. cond (ltb k (stepCount l)) (u k) czero) (l .nc * l .nsym) k h
+  scratch-at k h = parts-at (λ k. cond (ltb k (stepCount l)) (u k) czero) (l .nc * l .nsym) k h
 
   pub fewer : stepCount l ≤ l .nc * l .nsym
   fewer = mul-le-mul-left (l .nc) (omega arith)
@@ -95,14 +78,18 @@ module _ (l : Layout) (u : ℕ → Complex) where
   -- their mean norm
   pub mean-at : meanNorm (λ k. cget (scratchOf l u) k) (stepCount l) ≡ meanNorm u (stepCount l)
   unfolding meanNorm sumOfNorms
-  mean-at = rw (fsum-ext (λ k. normOf (cget (scratchOf l u) k)) (λ k. normOf (u k)) (stepCount l) (λ k h. ap normOf (step-at k h)))
+  mean-at =
+      rw (fsum-ext (λ k. normOf (cget (scratchOf l u) k)) (λ k. normOf (u k)) (stepCount l)
+      (λ k h. ap normOf (step-at k h)))
 
   -- divided in place
-  pub divided-at : (g : Complex → Complex) → cfilled (λ k. g (cget (scratchOf l u) k)) (stepCount l) (scratchOf l u) ≡ scratchOf l (λ k. g (u k))
+  pub divided-at : (g : Complex → Complex)
+      → cfilled (λ k. g (cget (scratchOf l u) k)) (stepCount l) (scratchOf l u) ≡ scratchOf l (λ k. g (u k))
   unfolding scratchOf
   divided-at g =
       let m = l .nc * l .nsym - stepCount l in
       let e : stepCount l + m ≡ l .nc * l .nsym = omega (arith, fewer) in
-      refilled (λ k. g (cget (scratchOf l u) k)) (λ k. cond (ltb k (stepCount l)) (u k) czero) (λ k. cond (ltb k (stepCount l)) (g (u k)) czero) (stepCount l) m (l .nc * l .nsym) e
+      refilled (λ k. g (cget (scratchOf l u) k)) (λ k. cond (ltb k (stepCount l)) (u k) czero)
+      (λ k. cond (ltb k (stepCount l)) (g (u k)) czero) (stepCount l) m (l .nc * l .nsym) e
       (λ k h. rw (lt-ltb k (stepCount l) h) (ap g (sym (step-at k h))))
       (λ k. rw (le-ltb (stepCount l + k) (stepCount l) (omega arith)))

@@ -1,5 +1,5 @@
--- "The reading's median: over the marker products of the symbols before division, at most 40." (01, "Beside the chain"; `raw_snr` of rx/psk.rs).
--- Definitions only.
+-- The median of a reading (01, "Beside the chain"; `raw_snr` of rx/psk.rs). Definitions only.
+-- "The reading's median: over the marker products of the symbols before division, at most 40."
 use Prim.Native.Nat.{ℕ, _-_, _*_, _/_, _%_}
 use mathlib.Core.List.{List}
 use lib.Ieee.{Float}

@@ -13,7 +13,7 @@ use Rattle.complex.specs.declared.Complex.{Complex}
 use Rattle.complex.specs.Arithmetic.{czero, cmul, cconj}
 use Rattle.complex.specs.Lists.{tabulate, tabulate-ext}
 use Rattle.complex.specs.Sums.{sumTo, fsumTo, sum-ext, fsum-ext}
-use Rattle.complex.specs.Pairs.{cget, cfilled, pairs, parts, cfilled-at}
+use Rattle.complex.specs.Pairs.{cget, cfilled, pairs, parts, cfilled-at, pair-at}
 use Rattle.laws.specs.Maximum.{maxf}
 use Rattle.root.specs.Unit.{unitOf}
 use Rattle.constellation.specs.Alphabet.{alphabet}
@@ -39,11 +39,11 @@ use Rattle.marks.specs.PlaceLaws.{place-at, in-frame, places-count, symbol-plac
 use Rattle.marks.specs.Products.{markedPlace, productAt}
 use Rattle.soft.specs.SoftCells.{softCells}
 use Rattle.soft.specs.SoftCells as soft
-use Rattle.decode.specs.Steps.{symbolIn, markCells, coherentAt, coherence, coherenceTurn, stepFrom, stepCount, stepPlace, undivided, scratchOf}
+use Rattle.decode.specs.Steps.{symbolIn, markCells, coherentAt, coherence, coherenceTurn}
+use Rattle.decode.specs.Steps.{stepFrom, stepCount, stepPlace, undivided, scratchOf}
 use Rattle.decode.specs.Noise.{varianceIn}
 use Rattle.decode.specs.SoftBits.{dataCells, cellOf, softIn}
 use Rattle.decode.specs.Median.{productOf, markerProduct, phaseMedian}
-use Rattle.decode.specs.Entries.{pair-at}
 
 -- scratch of `room` f64 for a frame's symbols, with an accepted marker table
 pub record Framed (l : Layout) (table : List ℕ) (room : ℕ) : Type 0 where
@@ -70,7 +70,9 @@ front k m xs e h = simp length-take (omega arith)
 
 pub soft-room : (l : Layout) (table : List ℕ) (i : IsLayout l) (m : Markers l table) (ps : List ℕ) (n : ℕ)
     → ps ≡ placesOf kind.Cell l table (l .nsym - 1) 1 → n ≡ l .n → n ≡ length ps * l .bps
-soft-room l table i m ps n e h = h ∙ sized l i .n-is ∙ ap (λ (k : ℕ). k * l .bps) (sym (ap length e ∙ places-count kind.Cell l table (l .nsym - 1) 1 m))
+soft-room l table i m ps n e h =
+    h ∙ sized l i .n-is
+    ∙ ap (λ (k : ℕ). k * l .bps) (sym (ap length e ∙ places-count kind.Cell l table (l .nsym - 1) 1 m))
 
 -- what the leaves ask of the places
 module _ (l : Layout) (table : List ℕ) (room : ℕ) (F : Framed l table room) (ps : List ℕ) where
@@ -82,7 +84,8 @@ module _ (l : Layout) (table : List ℕ) (room : ℕ) (F : Framed l table room) 
       let h : l .nc * (l .nsym - 1) ≤ l .nc * l .nsym = mul-le-mul-left (l .nc) (omega arith) in
       rw e (record { to = λ i I. omega (arith, step-places k l table .to i I, F .room-is) })
 
-marks-length : (l : Layout) (table : List ℕ) (stride back : ℕ) → length (placesOf kind.Mark l table stride back) ≡ length (markCells l table)
+marks-length : (l : Layout) (table : List ℕ) (stride back : ℕ)
+    → length (placesOf kind.Mark l table stride back) ≡ length (markCells l table)
 unfolding placesOf
 marks-length l table stride back = length-map (markCells l table) (packedPlace stride back)
 
@@ -91,7 +94,7 @@ module _ (l : Layout) (table : List ℕ) (xs : List Float) (F : Framed l table (
   size = sized l (F .layout)
 
   entry : (k : ℕ) → k < l .nc * l .nsym → cget xs k ≡ getD (pairs xs) k czero
-  entry k h = pair-at (l .nc * l .nsym) xs k (F .room-is) h
+  entry k h = pair-at (l .nc * l .nsym) xs k czero (F .room-is) h
 
   symbol : (at c s : ℕ) → at ≡ c * l .nsym + s → c < l .nc → s < l .nsym → cget xs at ≡ symbolIn l (pairs xs) c s
   symbol at c s e C S = ap (cget xs) e ∙ entry (c * l .nsym + s) (row-in (l .nc) (l .nsym) c s C S)
@@ -101,7 +104,8 @@ module _ (l : Layout) (table : List ℕ) (xs : List Float) (F : Framed l table (
   mark k = getD (markCells l table) k (cellAt 0 0)
 
   coherent-is : (k : ℕ) → k < length (placesOf kind.Mark l table (l .nsym) 0)
-      → coherentOf xs (getD (placesOf kind.Mark l table (l .nsym) 0) k 0) ≡ coherentAt l (pairs xs) (mark k .carrier) (mark k .symbol)
+      → coherentOf xs (getD (placesOf kind.Mark l table (l .nsym) 0) k 0)
+      ≡ coherentAt l (pairs xs) (mark k .carrier) (mark k .symbol)
   unfolding coherentOf mark
   coherent-is k K =
       let f = in-frame kind.Mark l table (l .nsym) 0 k K in
@@ -110,15 +114,18 @@ module _ (l : Layout) (table : List ℕ) (xs : List Float) (F : Framed l table (
       let s = mark k .symbol in
       let at = getD (placesOf kind.Mark l table (l .nsym) 0) k 0 in
       let u : cget xs at ≡ symbolIn l (pairs xs) c s = symbol at c s (omega (arith, p)) (f .carrier) (f .symbol .to) in
-      let v : cget xs (at - 1) ≡ symbolIn l (pairs xs) c (s - 1) = symbol (at - 1) c (s - 1) (omega (arith, p, f .symbol .from)) (f .carrier) (omega (arith, f .symbol .to)) in
+      let v : cget xs (at - 1) ≡ symbolIn l (pairs xs) c (s - 1) =
+      symbol (at - 1) c (s - 1) (omega (arith, p, f .symbol .from)) (f .carrier) (omega (arith, f .symbol .to)) in
       ap₂ (λ (a b : Complex). unitOf (cmul a (cconj b))) u v
 
   pub turn-is : turnOf xs (placesOf kind.Mark l table (l .nsym) 0) ≡ coherenceTurn l table (pairs xs)
   unfolding turnOf coherenceTurn coherenceOf coherence mark
   turn-is =
       ap (λ (x : Complex). unitOf (cconj x))
-      (sum-ext _ (λ k. coherentAt l (pairs xs) (mark k .carrier) (mark k .symbol)) (length (placesOf kind.Mark l table (l .nsym) 0)) coherent-is
-      ∙ ap (sumTo (λ k. coherentAt l (pairs xs) (mark k .carrier) (mark k .symbol))) (marks-length l table (l .nsym) 0))
+      (sum-ext _ (λ k. coherentAt l (pairs xs) (mark k .carrier) (mark k .symbol))
+      (length (placesOf kind.Mark l table (l .nsym) 0)) coherent-is
+      ∙ ap (sumTo (λ k. coherentAt l (pairs xs) (mark k .carrier) (mark k .symbol)))
+      (marks-length l table (l .nsym) 0))
 
   -- ---- the steps
   step-is : (k : ℕ) → k < stepCount l → (r : Complex) → r ≡ coherenceTurn l table (pairs xs)
@@ -130,16 +137,23 @@ module _ (l : Layout) (table : List ℕ) (xs : List Float) (F : Framed l table (
       let i = k % (l .nsym - 1) in
       let C : c < l .nc = div-lt-iff-lt-mul P .1 K in
       let I : i < l .nsym - 1 = mod-lt k P in
-      let u : cget xs (c * l .nsym + i + 1) ≡ symbolIn l (pairs xs) c (i + 1) = symbol (c * l .nsym + i + 1) c (i + 1) (omega arith) C (omega arith) in
-      let v : cget xs (c * l .nsym + i) ≡ symbolIn l (pairs xs) c i = symbol (c * l .nsym + i) c i (omega arith) C (omega arith) in
+      let u : cget xs (c * l .nsym + i + 1) ≡ symbolIn l (pairs xs) c (i + 1) =
+      symbol (c * l .nsym + i + 1) c (i + 1) (omega arith) C (omega arith) in
+      let v : cget xs (c * l .nsym + i) ≡ symbolIn l (pairs xs) c i =
+      symbol (c * l .nsym + i) c i (omega arith) C (omega arith) in
       ap₂ cmul (ap₂ (λ (a b : Complex). cmul a (cconj b)) u v) e
 
-  pub steps-are : (r : Complex) → r ≡ coherenceTurn l table (pairs xs) → steppedOf xs (l .nc) (l .nsym) r ≡ scratchOf l (undivided l table (pairs xs))
+  pub steps-are : (r : Complex) → r ≡ coherenceTurn l table (pairs xs)
+      → steppedOf xs (l .nc) (l .nsym) r ≡ scratchOf l (undivided l table (pairs xs))
   unfolding steppedOf scratchOf packedAt
-  steps-are r e = ap parts (tabulate-ext _ _ (l .nc * l .nsym) (λ k K. go k (ltb k (stepCount l)) (λ h. step-is k (ltb-true k (stepCount l) h) r e)))
+  steps-are r e =
+      ap parts (tabulate-ext _ _ (l .nc * l .nsym)
+      (λ k K. go k (ltb k (stepCount l)) (λ h. step-is k (ltb-true k (stepCount l) h) r e)))
     where
-      go : (k : ℕ) (b : Bool) → (b ≡ true → stepOf xs r (k / (l .nsym - 1) * l .nsym + k % (l .nsym - 1)) ≡ undivided l table (pairs xs) k)
-          → cond b (stepOf xs r (k / (l .nsym - 1) * l .nsym + k % (l .nsym - 1))) czero ≡ cond b (undivided l table (pairs xs) k) czero
+      go : (k : ℕ) (b : Bool)
+          → (b ≡ true → stepOf xs r (k / (l .nsym - 1) * l .nsym + k % (l .nsym - 1)) ≡ undivided l table (pairs xs) k)
+          → cond b (stepOf xs r (k / (l .nsym - 1) * l .nsym + k % (l .nsym - 1))) czero
+          ≡ cond b (undivided l table (pairs xs) k) czero
       go k true h = h (λ _. true)
       go k false h = λ _. czero
 
@@ -154,9 +168,12 @@ module _ (l : Layout) (table : List ℕ) (xs : List Float) (F : Framed l table (
       let g = good-value l table c (k % l .markers) (F .markers-ok .values-ok) C (mod-lt k P) in
       let S : v < l .nsym = omega (arith, g .to, size .spf-is, size .nsym-least) in
       ap₂ (λ (a b : Complex). cmul (cconj a) b)
-      (symbol (markedPlace l table k - 1) c (v - 1) (omega (arith, g .from)) C (omega arith)) (symbol (markedPlace l table k) c v (omega arith) C S)
+      (symbol (markedPlace l table k - 1) c (v - 1) (omega (arith, g .from)) C (omega arith))
+      (symbol (markedPlace l table k) c v (omega arith) C S)
 
-  pub median-is : (room : List Float) → medianOf (λ k. cget (cfilled (productAt l table xs) (l .nc * l .markers) room) k) (l .nc * l .markers) ≡ phaseMedian l table (pairs xs)
+  pub median-is : (room : List Float)
+      → medianOf (λ k. cget (cfilled (productAt l table xs) (l .nc * l .markers) room) k) (l .nc * l .markers)
+      ≡ phaseMedian l table (pairs xs)
   unfolding phaseMedian
   median-is room =
       median-same _ _ (l .nc * l .markers)
@@ -170,11 +187,14 @@ module _ (l : Layout) (table : List ℕ) (steps : List Float) where
       let places = placesOf kind.Mark l table (l .nsym - 1) 1 in
       let n : length places ≡ length (markCells l table) = marks-length l table (l .nsym - 1) 1 in
       ap₂ (λ (a b : Float). maxf (div binary64 a b) milli)
-      (fsum-ext _ _ (length places) (λ k K. ap (λ (i : ℕ). deviationOf (cget steps i)) (place-at kind.Mark l table (l .nsym - 1) 1 k)) ∙ ap (fsumTo _) n)
+      (fsum-ext _ _ (length places)
+      (λ k K. ap (λ (i : ℕ). deviationOf (cget steps i)) (place-at kind.Mark l table (l .nsym - 1) 1 k))
+      ∙ ap (fsumTo _) n)
       (ap whole n)
 
   pub soft-are : Markers l table → IsLayout l → (nvar : Float)
-      → softCells (l .bps) steps (placesOf kind.Cell l table (l .nsym - 1) 1) nvar ≡ tabulate (softIn l table (λ k. cget steps k) nvar) (l .n)
+      → softCells (l .bps) steps (placesOf kind.Cell l table (l .nsym - 1) 1) nvar
+      ≡ tabulate (softIn l table (λ k. cget steps k) nvar) (l .n)
   unfolding softCells softIn soft.softAt
   soft-are m i nvar =
       let places = placesOf kind.Cell l table (l .nsym - 1) 1 in
@@ -188,7 +208,9 @@ module _ (l : Layout) (table : List ℕ) (steps : List Float) where
 
 -- ---- steps that agree
 module _ (l : Layout) (table : List ℕ) (u w : ℕ → Complex) where
-  mark-there : (k : ℕ) → k < length (markCells l table) → stepPlace l (getD (markCells l table) k (cellAt 0 0) .carrier) (getD (markCells l table) k (cellAt 0 0) .symbol) < stepCount l
+  mark-there : (k : ℕ) → k < length (markCells l table)
+      → stepPlace l (getD (markCells l table) k (cellAt 0 0) .carrier)
+      (getD (markCells l table) k (cellAt 0 0) .symbol) < stepCount l
   mark-there k K =
       let K′ : k < length (placesOf kind.Mark l table (l .nsym - 1) 1) = rw (marks-length l table (l .nsym - 1) 1) K in
       let f = in-frame kind.Mark l table (l .nsym - 1) 1 k K′ in
@@ -201,7 +223,8 @@ module _ (l : Layout) (table : List ℕ) (u w : ℕ → Complex) where
       (fsum-ext _ _ (length (markCells l table)) (λ k K. ap deviationOf (h _ (mark-there k K))))
 
 pub soft-same : (l : Layout) (i : IsLayout l) (table : List ℕ) (m : Markers l table) (u w : ℕ → Complex) (nvar : Float)
-    → ((k : ℕ) → k < stepCount l → u k ≡ w k) → tabulate (softIn l table u nvar) (l .n) ≡ tabulate (softIn l table w nvar) (l .n)
+    → ((k : ℕ) → k < stepCount l → u k ≡ w k)
+    → tabulate (softIn l table u nvar) (l .n) ≡ tabulate (softIn l table w nvar) (l .n)
 unfolding softIn
 soft-same l i table m u w nvar h =
     let z = sized l i in

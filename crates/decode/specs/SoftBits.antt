@@ -24,7 +24,8 @@ cellOf l table i = getD (dataCells l table) i (cellAt 0 0)
 abbrev pub receivedAt : Layout → List ℕ → List Complex → ℕ → Complex
 receivedAt l table z i = receivedIn l table z (cellOf l table i .carrier) (cellOf l table i .symbol)
 
--- "Soft bits are `Demapper::soft_bits` with no weights.": soft bit i is bit i % bps of cell i / bps, of steps w packed by carrier
+-- "Soft bits are `Demapper::soft_bits` with no weights.": soft bit i is bit i % bps of cell i / bps, of steps w
+-- packed by carrier
 unfoldable pub softIn : Layout → List ℕ → (ℕ → Complex) → Float → ℕ → Float
 softIn l table w nvar i =
     let x = cellOf l table (i / l .bps) in

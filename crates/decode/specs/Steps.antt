@@ -1,4 +1,5 @@
--- The steps of a frame's symbols, their turn and their size (01, "Reading"; `coherence` and `decode` of rx/psk.rs). Definitions only.
+-- The steps of a frame's symbols, their turn and their size (01, "Reading"). Definitions only.
+-- `coherence` and `decode` of rx/psk.rs.
 use Prim.Native.Nat.{ℕ, _+_, _-_, _*_, _/_, _%_}
 use mathlib.Core.Bool.{cond}
 use mathlib.Core.List.{List}

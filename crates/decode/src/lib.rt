@@ -1,4 +1,5 @@
-// A frame's symbols in lent scratch become its steps, and the steps its soft bits (01, "Reading"; `decode` and `raw_snr` of rx/psk.rs).
+// A frame's symbols in lent scratch become its steps, and the steps its soft bits (01, "Reading"; `decode` and
+// `raw_snr` of rx/psk.rs).
 ghost use mathlib.Core.Path.{_≡_};
 ghost use Prim.Native.Nat.{_-_, _*_};
 ghost use lib.ListN.{length};
@@ -36,7 +37,8 @@ fn turn(l: Layout, markers: &[u16], z: &[f64]) -> Complex
 // Symbols packed by carrier become steps packed by carrier, turned; the rest of the scratch is zero.
 pub fn steps(l: Layout, markers: &[u16], scratch: &mut [f64])
     requires { ⌜ Framed l (now markers) (length (now scratch)) ⌝ }
-    ensures { λ _. ⌜ now (scratch .exit) ≡ scratchOf l (undivided l (now (markers .entry)) (pairs (now (scratch .entry)))) ⌝ }
+    ensures { λ _. ⌜ now (scratch .exit)
+        ≡ scratchOf l (undivided l (now (markers .entry)) (pairs (now (scratch .entry)))) ⌝ }
 {
     let r = turn(l, markers, scratch);
     eq::pack_steps(scratch, l.nc, l.nsym, r)
@@ -80,8 +82,10 @@ fn soft_through(
     places: &mut [usize],
     out: &mut [f64],
 )
-    requires { ⌜ Framed l (now markers) (length (now steps)) × (length (now places) ≡ l .nc * cells l) × (length (now out) ≡ l .n) ⌝ }
-    ensures { λ _. ⌜ now (out .exit) ≡ tabulate (softIn l (now (markers .entry)) (λ k. cget (now (steps .entry)) k) nvar) (l .n) ⌝ }
+    requires { ⌜ Framed l (now markers) (length (now steps))
+        × (length (now places) ≡ l .nc * cells l) × (length (now out) ≡ l .n) ⌝ }
+    ensures { λ _. ⌜ now (out .exit)
+        ≡ tabulate (softIn l (now (markers .entry)) (λ k. cget (now (steps .entry)) k) nvar) (l .n) ⌝ }
 {
     marks::places(l, markers, Kind::Cell, l.nsym - 1, 1, places);
     soft::soft_cells(l.bps, steps, places, nvar, out)
@@ -90,7 +94,8 @@ fn soft_through(
 // The soft bits of steps packed by carrier.
 pub fn soft_bits(l: Layout, markers: &[u16], steps: &[f64], nvar: f64, out: &mut [f64])
     requires { ⌜ Framed l (now markers) (length (now steps)) × (length (now out) ≡ l .n) ⌝ }
-    ensures { λ _. ⌜ now (out .exit) ≡ tabulate (softIn l (now (markers .entry)) (λ k. cget (now (steps .entry)) k) nvar) (l .n) ⌝ }
+    ensures { λ _. ⌜ now (out .exit)
+        ≡ tabulate (softIn l (now (markers .entry)) (λ k. cget (now (steps .entry)) k) nvar) (l .n) ⌝ }
 {
     let n = l.nc * (l.nsym - 1 - l.markers);
     let mut places = [0usize; 4472];

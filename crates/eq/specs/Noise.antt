@@ -18,7 +18,9 @@ deviationOf w = normSqr (cx (sub binary64 (w .re) (normOf w)) (w .im))
 
 -- `dpsk_nvar`: the mean of these over the marks, each by its step's place; Rust's `max` with 1e-3
 unfoldable pub noiseOf : List Float → List ℕ → Float
-noiseOf steps marks = maxf (div binary64 (fsumTo (λ k. deviationOf (cget steps (getD marks k 0))) (length marks)) (whole (length marks))) milli
+noiseOf steps marks =
+    maxf (div binary64 (fsumTo (λ k. deviationOf (cget steps (getD marks k 0))) (length marks)) (whole (length marks)))
+    milli
 
 -- each place is inside `room` f64 of complex numbers
 pub record Inside (room : ℕ) (marks : List ℕ) : Type 0 where

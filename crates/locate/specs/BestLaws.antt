@@ -1,4 +1,5 @@
--- What a loop cites of `bestFrom`, and that it is the first of the greatest where no NaN is among the values. Assumes nothing.
+-- What a loop cites of `bestFrom`. Assumes nothing.
+-- And that it is the first of the greatest where no NaN is among the values.
 use Prim.Native.Nat.{ℕ, zero, suc, _+_, _-_, _≤_, _<_}
 use mathlib.Core.Path.{_≡_, refl, sym, ap, ap₂, _∙_}
 use mathlib.Core.Logic.{⊎-elim}
@@ -18,13 +19,15 @@ use Rattle.locate.specs.Locate.{locatedAt, betterOf, bestFrom}
 use Rattle.locate.specs.Fits.{flatAt}
 
 -- a turn of a loop: one position more
-pub best-step : (f : ℕ → Chi) (p i : ℕ) (r : Located) (q : ℕ) (x : Chi) → r ≡ bestFrom f p i → q ≡ p + (i + 1) → x ≡ f q → betterOf r q x ≡ bestFrom f p (i + 1)
+pub best-step : (f : ℕ → Chi) (p i : ℕ) (r : Located) (q : ℕ) (x : Chi)
+    → r ≡ bestFrom f p i → q ≡ p + (i + 1) → x ≡ f q → betterOf r q x ≡ bestFrom f p (i + 1)
 unfolding bestFrom
 best-step f p i r q x e h g =
     rw (e, g, h, add-one i) refl
 
 -- positions that agree
-pub best-ext : (f g : ℕ → Chi) (p n : ℕ) → ((i : ℕ) → i < suc n → f (p + i) ≡ g (p + i)) → bestFrom f p n ≡ bestFrom g p n
+pub best-ext : (f g : ℕ → Chi) (p n : ℕ)
+    → ((i : ℕ) → i < suc n → f (p + i) ≡ g (p + i)) → bestFrom f p n ≡ bestFrom g p n
 unfolding bestFrom
 best-ext f g p zero h =
     let z : p + 0 ≡ p = omega arith in
@@ -53,31 +56,36 @@ le-self : (x : Float) → isNan x ≡ false → le x x ≡ true
 le-self x n = not-lt-le x x n n (not-below-itself x)
 
 -- one position more: it is strictly greater, or it isn't
-module _ (f : ℕ → Chi) (p n : ℕ) (h : (i : ℕ) → i ≤ suc n → isNan (f (p + i) .chi) ≡ false) (r : Located) (u : First f p n r) where
+module _ (f : ℕ → Chi) (p n : ℕ) (h : (i : ℕ) → i ≤ suc n → isNan (f (p + i) .chi) ≡ false)
+    (r : Located) (u : First f p n r) where
   abbrev here : Chi
   here = f (p + suc n)
 
   taken : lt (r .chi) (here .chi) ≡ true → First f p (suc n) (locatedAt (p + suc n) here)
   taken t =
-      let before : (i : ℕ) → i ≤ n → lt (f (p + i) .chi) (here .chi) ≡ true = λ i l. le-lt-trans (f (p + i) .chi) (r .chi) (here .chi) (u .greatest i l) t in
+      let before : (i : ℕ) → i ≤ n → lt (f (p + i) .chi) (here .chi) ≡ true =
+      λ i l. le-lt-trans (f (p + i) .chi) (r .chi) (here .chi) (u .greatest i l) t in
       record {
         index = suc n;
         index-within = omega arith;
         is = refl;
         greatest = λ i l.
-            ⊎-elim (λ e. rw e (le-self (here .chi) (h (suc n) (omega arith)))) (λ g. lt-le (f (p + i) .chi) (here .chi) (before i (le-of-suc-le-suc g))) (eq-or-lt-of-le l);
+            ⊎-elim (λ e. rw e (le-self (here .chi) (h (suc n) (omega arith))))
+            (λ g. lt-le (f (p + i) .chi) (here .chi) (before i (le-of-suc-le-suc g))) (eq-or-lt-of-le l);
         first = λ i l. before i (le-of-suc-le-suc l);
       }
 
   left : lt (r .chi) (here .chi) ≡ false → First f p (suc n) r
   left t =
-      let number : isNan (r .chi) ≡ false = ap (λ (z : Located). isNan (z .chi)) (u .is) ∙ h (u .index) (omega (arith, u .index-within)) in
+      let number : isNan (r .chi) ≡ false =
+      ap (λ (z : Located). isNan (z .chi)) (u .is) ∙ h (u .index) (omega (arith, u .index-within)) in
       record {
         index = u .index;
         index-within = omega (arith, u .index-within);
         is = u .is;
         greatest = λ i l.
-            ⊎-elim (λ e. rw e (not-lt-le (here .chi) (r .chi) (h (suc n) (omega arith)) number t)) (λ g. u .greatest i (le-of-suc-le-suc g)) (eq-or-lt-of-le l);
+            ⊎-elim (λ e. rw e (not-lt-le (here .chi) (r .chi) (h (suc n) (omega arith)) number t))
+            (λ g. u .greatest i (le-of-suc-le-suc g)) (eq-or-lt-of-le l);
         first = u .first;
       }
 
@@ -85,7 +93,8 @@ module _ (f : ℕ → Chi) (p n : ℕ) (h : (i : ℕ) → i ≤ suc n → isNan 
   more true t = taken t
   more false t = left t
 
-pub best-first : (f : ℕ → Chi) (p n : ℕ) → ((i : ℕ) → i ≤ n → isNan (f (p + i) .chi) ≡ false) → First f p n (bestFrom f p n)
+pub best-first : (f : ℕ → Chi) (p n : ℕ)
+    → ((i : ℕ) → i ≤ n → isNan (f (p + i) .chi) ≡ false) → First f p n (bestFrom f p n)
 unfolding bestFrom betterOf
 best-first f p zero h =
     let z : p + 0 ≡ p = omega arith in
@@ -99,7 +108,8 @@ best-first f p zero h =
       first = λ i l. absurd (omega arith);
     }
 best-first f p (suc n) h =
-    more f p n h (bestFrom f p n) (best-first f p n (λ i l. h i (omega arith))) (lt (bestFrom f p n .chi) (f (p + suc n) .chi)) refl
+    more f p n h (bestFrom f p n) (best-first f p n (λ i l. h i (omega arith)))
+    (lt (bestFrom f p n .chi) (f (p + suc n) .chi)) refl
 
 -- a NaN at the first position stays, since nothing is greater
 pub nan-stays : (f : ℕ → Chi) (p n : ℕ) → isNan (f p .chi) ≡ true → bestFrom f p n ≡ locatedAt p (f p)
@@ -107,14 +117,18 @@ unfolding bestFrom betterOf
 nan-stays f p zero h = refl
 nan-stays f p (suc n) h = rw (nan-stays f p n h) (go (lt (f p .chi) (f (p + suc n) .chi)) refl)
   where
-    go : (b : Bool) → lt (f p .chi) (f (p + suc n) .chi) ≡ b → cond b (locatedAt (p + suc n) (f (p + suc n))) (locatedAt p (f p)) ≡ locatedAt p (f p)
+    go : (b : Bool) → lt (f p .chi) (f (p + suc n) .chi) ≡ b
+        → cond b (locatedAt (p + suc n) (f (p + suc n))) (locatedAt p (f p)) ≡ locatedAt p (f p)
     go true e = absurd (true≢false (sym h ∙ lt-number (f p .chi) (f (p + suc n) .chi) e))
     go false e = refl
 
 -- chi over tables, by counts that are those of the tables
-pub counted : (memory : List Float) (marks : List ℕ) (markRefs : List Float) (cells : List ℕ) (cellRefs : List Float) (base p : ℕ) (n : Counts) (x : Chi)
-    → n ≡ countsOf (length marks) (length cells) → x ≡ flatChi memory marks markRefs cells cellRefs n (p - base) → x ≡ flatAt memory marks markRefs cells cellRefs base p
-counted memory marks markRefs cells cellRefs base p n x e h = h ∙ ap (λ (n : Counts). flatChi memory marks markRefs cells cellRefs n (p - base)) e
+pub counted : (memory : List Float) (marks : List ℕ) (markRefs : List Float)
+    (cells : List ℕ) (cellRefs : List Float) (base p : ℕ) (n : Counts) (x : Chi)
+    → n ≡ countsOf (length marks) (length cells) → x ≡ flatChi memory marks markRefs cells cellRefs n (p - base)
+    → x ≡ flatAt memory marks markRefs cells cellRefs base p
+counted memory marks markRefs cells cellRefs base p n x e h =
+    h ∙ ap (λ (n : Counts). flatChi memory marks markRefs cells cellRefs n (p - base)) e
 
 -- the position found is one of those asked
 pub best-within : (f : ℕ → Chi) (p n : ℕ) → (p ≤ bestFrom f p n .t .0) × (bestFrom f p n .t .0 ≤ p + n)

@@ -1,4 +1,5 @@
--- Locating (01, "Reading": "Best chi among t0 − 3 to t0 + 3, first of equals, gives t"; "`locate` returns t, chi and the pilot sum"). Definitions only.
+-- Locating (01, "Reading"). Definitions only.
+-- "Best chi among t0 − 3 to t0 + 3, first of equals, gives t"; "`locate` returns t, chi and the pilot sum".
 use Prim.Native.Nat.{ℕ, zero, suc, _+_, _-_}
 use mathlib.Core.Bool.{cond}
 use lib.Ieee.{lt}

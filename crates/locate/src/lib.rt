@@ -51,8 +51,10 @@ fn chi_in(
     base: u64,
     p: u64,
 ) -> Chi
-    requires { ⌜ ChiFits (length (now memory)) (now marks) (length (now «mark_refs»)) (now cells) (length (now «cell_refs»)) base p ⌝ }
-    ensures { λ r. ⌜ r ≡ flatAt (now (memory .entry)) (now (marks .entry)) (now («mark_refs» .entry)) (now (cells .entry)) (now («cell_refs» .entry)) base p ⌝ }
+    requires { ⌜ ChiFits (length (now memory)) (now marks)
+        (length (now «mark_refs»)) (now cells) (length (now «cell_refs»)) base p ⌝ }
+    ensures { λ r. ⌜ r ≡ flatAt (now (memory .entry)) (now (marks .entry))
+        (now («mark_refs» .entry)) (now (cells .entry)) (now («cell_refs» .entry)) base p ⌝ }
 {
     let n = search::counts_of(marks.len(), cells.len());
     search::chi_at(
@@ -76,8 +78,10 @@ fn locate_tables(
     base: u64,
     lo: u64,
 ) -> Located
-    requires { ⌜ FlatFits (length (now memory)) (now marks) (length (now «mark_refs»)) (now cells) (length (now «cell_refs»)) base lo ⌝ }
-    ensures { λ r. ⌜ r ≡ bestFrom (flatAt (now (memory .entry)) (now (marks .entry)) (now («mark_refs» .entry)) (now (cells .entry)) (now («cell_refs» .entry)) base) lo 6 ⌝ }
+    requires { ⌜ FlatFits (length (now memory)) (now marks)
+        (length (now «mark_refs»)) (now cells) (length (now «cell_refs»)) base lo ⌝ }
+    ensures { λ r. ⌜ r ≡ bestFrom (flatAt (now (memory .entry)) (now (marks .entry))
+        (now («mark_refs» .entry)) (now (cells .entry)) (now («cell_refs» .entry)) base) lo 6 ⌝ }
 {
     let first = chi_in(memory, marks, mark_refs, cells, cell_refs, base, lo);
     let mut best = at_position(lo, first);
@@ -104,9 +108,12 @@ fn locate_through(
     cells: &mut [usize],
     cell_refs: &mut [f64],
 ) -> Located
-    requires { ⌜ LocateFits l (record { markers = now markers; phasors = now phasors }) (length (now memory)) step power t0
-        × TableRoom Pilot l (length (now marks)) (length (now «mark_refs»)) × TableRoom Data l (length (now cells)) (length (now «cell_refs»)) ⌝ }
-    ensures { λ r. ⌜ r ≡ bestAround l (record { markers = now (markers .entry); phasors = now (phasors .entry) }) (stepsIn l (now (memory .entry)) step) (powersIn l (now (memory .entry)) power) t0 ⌝ }
+    requires { ⌜ LocateFits l (record { markers = now markers; phasors = now phasors })
+        (length (now memory)) step power t0
+        × TableRoom Pilot l (length (now marks)) (length (now «mark_refs»))
+        × TableRoom Data l (length (now cells)) (length (now «cell_refs»)) ⌝ }
+    ensures { λ r. ⌜ r ≡ bestAround l (record { markers = now (markers .entry); phasors = now (phasors .entry) })
+        (stepsIn l (now (memory .entry)) step) (powersIn l (now (memory .entry)) power) t0 ⌝ }
 {
     chi::table(l, markers, phasors, Sum::Pilot, marks, mark_refs);
     chi::table(l, markers, phasors, Sum::Data, cells, cell_refs);
@@ -131,8 +138,10 @@ pub fn locate_in(
     power: Span,
     t0: u64,
 ) -> Located
-    requires { ⌜ LocateFits l (record { markers = now markers; phasors = now phasors }) (length (now memory)) step power t0 ⌝ }
-    ensures { λ r. ⌜ r ≡ bestAround l (record { markers = now (markers .entry); phasors = now (phasors .entry) }) (stepsIn l (now (memory .entry)) step) (powersIn l (now (memory .entry)) power) t0 ⌝ }
+    requires { ⌜ LocateFits l (record { markers = now markers; phasors = now phasors })
+        (length (now memory)) step power t0 ⌝ }
+    ensures { λ r. ⌜ r ≡ bestAround l (record { markers = now (markers .entry); phasors = now (phasors .entry) })
+        (stepsIn l (now (memory .entry)) step) (powersIn l (now (memory .entry)) power) t0 ⌝ }
 {
     let m = l.nc * chi::per_carrier(l, Sum::Pilot);
     let n = l.nc * chi::per_carrier(l, Sum::Data);

@@ -1,4 +1,5 @@
--- The places are inside what is packed: among symbols each has one before it, among steps each is inside; and how many there are. Assumes nothing.
+-- The places are inside what is packed, and how many there are. Assumes nothing.
+-- Among symbols each has one before it, among steps each is inside.
 use Prim.Native.Nat.{ℕ, zero, suc, _-_, _*_, _≤_, _<_}
 use mathlib.Core.Path.{_≡_, ap, _∙_}
 use mathlib.Core.List.{List, map}
@@ -23,8 +24,10 @@ module _ (kind : Kind) (l : Layout) (table : List ℕ) where
   unfolding byCarrier
   all-in zero h = tt
   all-in (suc n) h =
-      each-append (InFrame l) (byCarrier (symbolsOf kind l table) n) (map (cellAt n) (symbolsOf kind l table n)) (all-in n (omega arith))
-      (each-map (InRow (l .nsym)) (InFrame l) (cellAt n) (λ s r. record { carrier = omega arith; symbol = r }) (symbolsOf kind l table n) (symbols-in l table kind n))
+      each-append (InFrame l) (byCarrier (symbolsOf kind l table) n)
+      (map (cellAt n) (symbolsOf kind l table n)) (all-in n (omega arith))
+      (each-map (InRow (l .nsym)) (InFrame l) (cellAt n) (λ s r. record { carrier = omega arith; symbol = r })
+      (symbolsOf kind l table n) (symbols-in l table kind n))
 
   -- symbol k of the kind
   abbrev pub numbered : ℕ → dat.Cell
@@ -35,7 +38,8 @@ module _ (kind : Kind) (l : Layout) (table : List ℕ) where
     unfolding placesOf
     places-count m =
         length-map (byCarrier (symbolsOf kind l table) (l .nc)) (packedPlace stride back)
-        ∙ byCarrier-count (symbolsOf kind l table) (l .nc) (perCarrier kind l) (λ c C. symbols-count l table kind c m C)
+        ∙ byCarrier-count (symbolsOf kind l table) (l .nc) (perCarrier kind l)
+        (λ c C. symbols-count l table kind c m C)
 
     pub place-at : (k : ℕ) → getD (placesOf kind l table stride back) k 0 ≡ packedPlace stride back (numbered k)
     unfolding placesOf
@@ -58,7 +62,11 @@ module _ (kind : Kind) (l : Layout) (table : List ℕ) where
             omega (arith, place-at (l .nsym) 0 k, f .symbol .from);
         to = λ k K.
             let f = in-frame (l .nsym) 0 k K in
-            omega (arith, place-at (l .nsym) 0 k, row-in (l .nc) (l .nsym) (numbered k .carrier) (numbered k .symbol) (f .carrier) (f .symbol .to));
+            omega (
+              arith,
+              place-at (l .nsym) 0 k,
+              row-in (l .nc) (l .nsym) (numbered k .carrier) (numbered k .symbol) (f .carrier) (f .symbol .to),
+            );
       }
 
   pub step-places : Inside (2 * (l .nc * (l .nsym - 1))) (placesOf kind l table (l .nsym - 1) 1)
@@ -69,6 +77,7 @@ module _ (kind : Kind) (l : Layout) (table : List ℕ) where
             omega (
               arith,
               place-at (l .nsym - 1) 1 k,
-              row-in (l .nc) (l .nsym - 1) (numbered k .carrier) (numbered k .symbol - 1) (f .carrier) (omega (arith, f .symbol .from, f .symbol .to)),
+              row-in (l .nc) (l .nsym - 1) (numbered k .carrier) (numbered k .symbol - 1)
+                  (f .carrier) (omega (arith, f .symbol .from, f .symbol .to)),
             );
       }

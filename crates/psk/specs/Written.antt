@@ -96,10 +96,3 @@ pub written-all : (f : ℕ → Complex) (n : ℕ) (xs : List Float) → length x
 unfolding cfilled
 written-all f n xs h =
     from-start f n xs (le-of-eq (sym h)) ∙ rw (drop-of-length-le xs (le-of-eq h)) (append-nil (parts (tabulate f n)))
-
--- a number of it
-pub parts-at : (f : ℕ → Complex) (n k : ℕ) → k < n → cget (parts (tabulate f n)) k ≡ f k
-parts-at f n k h =
-    let xs = parts (tabulate f n) in
-    let len : length xs ≡ 2 * n = length-parts (tabulate f n) ∙ ap (λ (x : ℕ). 2 * x) (length-tabulate f n) in
-    sym (getD-pairs xs k (omega arith)) ∙ rw pairs-parts (getD-tabulate f n k (cx nan nan) h)

@@ -1,4 +1,5 @@
--- What a reading or a locating that answered met and left: none of the rows' conditions, the divided steps and the soft bits. Assumes nothing.
+-- What a reading or a locating that answered met and left. Assumes nothing.
+-- It met none of the rows' conditions, and left the divided steps and the soft bits.
 use Prim.Native.Nat.{ℕ}
 use mathlib.Core.Path.{_≡_, refl, _∙_}
 use mathlib.Core.Bool.{Bool, true, false, not, _&&_}
@@ -29,10 +30,13 @@ use Rattle.reading.specs.declared.LocateAnswer.the-variants as loc
 use Rattle.reading.specs.declared.ReadAnswer.the-variants as rd
 use Rattle.reading.specs.Reading.{located, readingOf}
 use Rattle.reading.specs.Conditions.{wrongBuffers, framePast, notInHand, wrongGain}
-use Rattle.reading.specs.Read.{Asked, foundIn, placeFault, frameFault, readFault, readBegun, gainFault, symbolsRead, readAccepted, readOutcome, stepsLeft, ReadBy, locateFault, locateOutcome, LocatedBy}
+use Rattle.reading.specs.Read.{Asked, foundIn, placeFault, frameFault, readFault, readBegun}
+use Rattle.reading.specs.Read.{gainFault, symbolsRead, readAccepted, readOutcome, stepsLeft}
+use Rattle.reading.specs.Read.{ReadBy, locateFault, locateOutcome, LocatedBy}
 
 -- a call that answered r, and left scratch′ and out′
-pub record ReadDone (a : Asked) (s : State) (memory : List Float) (r : Reading) (scratch′ out′ : List Float) : Type 0 where
+pub record ReadDone (a : Asked) (s : State) (memory : List Float)
+    (r : Reading) (scratch′ out′ : List Float) : Type 0 where
   pub layout : Layout
   pub chosen-is : chosen (a .bandwidth) (a .rec) ≡ answered layout
   pub tables-ok : tableFault layout (a .markers) (a .phasors) ≡ Clear
@@ -56,15 +60,18 @@ gain-right g e = go (lt fzero g) (lt g (inf false)) refl refl e
 never : {A : Type 0} {X : Type 0} (k : ℕ) (x : A) → answered x ≡ refused k → X
 never k x e = absurd (let z : _≡_ {A = ℕ} 0 1 = cc in omega arith)
 
-module _ (a : Asked) (s : State) (memory scratch out : List Float) (r : Reading) (scratch′ out′ : List Float) (w : ReadBy a s memory scratch out (rd.Read r) scratch′ out′) where
+module _ (a : Asked) (s : State) (memory scratch out : List Float) (r : Reading)
+    (scratch′ out′ : List Float) (w : ReadBy a s memory scratch out (rd.Read r) scratch′ out′) where
   abbrev S : ℕ
   S = length scratch
 
   abbrev O : ℕ
   O = length out
 
-  in-layout : (l : Layout) → chosen (a .bandwidth) (a .rec) ≡ answered l → readFault l a s (length memory) S O ≡ Clear → readBegun a s (length memory) S O ≡ answered l
-      → (b : Bool) → wrongGain (gainOf l (a .markers) (symbolsRead l a s memory)) ≡ b → ReadDone a s memory r scratch′ out′
+  in-layout : (l : Layout) → chosen (a .bandwidth) (a .rec) ≡ answered l
+      → readFault l a s (length memory) S O ≡ Clear → readBegun a s (length memory) S O ≡ answered l
+      → (b : Bool) → wrongGain (gainOf l (a .markers) (symbolsRead l a s memory)) ≡ b
+      → ReadDone a s memory r scratch′ out′
   unfolding readFault frameFault gainFault readAccepted readOutcome stepsLeft
   in-layout l c f e true g =
       let q : readAccepted a s memory S O ≡ refused 24 = rw (e, g) in
@@ -75,7 +82,8 @@ module _ (a : Asked) (s : State) (memory scratch out : List Float) (r : Reading)
       let f₁ = clear-first no.Buffer (wrongBuffers l S O) _ (t .1) in
       let f₂ = clear-first no.State (wrongState l (length memory) s) _ (f₁ .1) in
       let f₃ = clear-first no.NotInHand (notInHand l s (a .t0) (a .drift)) _ (f₂ .1) in
-      let u : answered r ≡ answered (readingOf l (a .markers) (foundIn l a s memory) (symbolsRead l a s memory)) = w .answer ∙ rw q in
+      let u : answered r ≡ answered (readingOf l (a .markers) (foundIn l a s memory) (symbolsRead l a s memory)) =
+      w .answer ∙ rw q in
       record {
         layout = l;
         chosen-is = c;
@@ -88,7 +96,8 @@ module _ (a : Asked) (s : State) (memory scratch out : List Float) (r : Reading)
         out-is = w .out-is ∙ rw q;
       }
 
-  with-fault : (l : Layout) → chosen (a .bandwidth) (a .rec) ≡ answered l → (f : Fault) → readFault l a s (length memory) S O ≡ f → ReadDone a s memory r scratch′ out′
+  with-fault : (l : Layout) → chosen (a .bandwidth) (a .rec) ≡ answered l
+      → (f : Fault) → readFault l a s (length memory) S O ≡ f → ReadDone a s memory r scratch′ out′
   unfolding readBegun readAccepted readOutcome
   with-fault l c (Met n) f =
       let e : readBegun a s (length memory) S O ≡ judged (Met n) (answered l) = rw (c, f) in
@@ -120,7 +129,8 @@ module _ (a : Asked) (s : State) (memory : List Float) (f : Located) (w : Locate
   unfolding locateOutcome locateFault placeFault
   place-of = go (chosen (a .bandwidth) (a .rec)) refl (w .answer)
     where
-      with-fault : (l : Layout) → chosen (a .bandwidth) (a .rec) ≡ answered l → (t : Fault) → locateFault l a s (length memory) ≡ t
+      with-fault : (l : Layout) → chosen (a .bandwidth) (a .rec) ≡ answered l
+          → (t : Fault) → locateFault l a s (length memory) ≡ t
           → answered f ≡ judged t (answered (foundIn l a s memory)) → LocateDone a s memory f
       with-fault l c (Met n) t e = never (numberOf n) f e
       with-fault l c Clear t e =
@@ -130,6 +140,7 @@ module _ (a : Asked) (s : State) (memory : List Float) (f : Located) (w : Locate
           record { layout = l; chosen-is = c; state-ok = u₁ .0; in-hand = u₂ .0; result = cc }
 
       go : (o : Outcome Layout) → chosen (a .bandwidth) (a .rec) ≡ o
-          → answered f ≡ andThen o (λ l. judged (locateFault l a s (length memory)) (answered (foundIn l a s memory))) → LocateDone a s memory f
+          → answered f ≡ andThen o (λ l. judged (locateFault l a s (length memory)) (answered (foundIn l a s memory)))
+          → LocateDone a s memory f
       go (refused k) c e = never k f e
       go (answered l) c e = with-fault l c (locateFault l a s (length memory)) refl e

@@ -1,4 +1,5 @@
--- What is left of the conditions of `locate` and `read` where none is met, and that the leaves find what they ask for. Assumes nothing.
+-- What is left of the conditions of `locate` and `read` where none is met. Assumes nothing.
+-- And that the leaves find what they ask for.
 use Prim.Native.Nat.{ℕ, _+_, _-_, _*_, _^_, _≤_, _<_}
 use mathlib.Core.Path.{_≡_, sym, ap, _∙_}
 use mathlib.Core.Bool.{Bool, false, not, _&&_}
@@ -42,26 +43,38 @@ pub record InHand (l : Layout) (t : Tables) (s : State) (room t0 : ℕ) : Type 0
   pub to : t0 + reach l + 4 ≤ spanEnd (s .filtered)
 
 -- and with it drift rows, scratch and out buffer: 11 and 23
-pub record Begun (l : Layout) (t : Tables) (s : State) (room t0 : ℕ) (drift : List Float) (scratch out : ℕ) : Type 0 where
+pub record Begun (l : Layout) (t : Tables) (s : State) (room t0 : ℕ)
+    (drift : List Float) (scratch out : ℕ) : Type 0 where
   pub in-hand : InHand l t s room t0
-  pub rows : (length drift ≡ 0 → ⊥) → (length drift ≡ 2 * (l .nc * driftLength l)) × (s .samples .base .0 + l .delay + 4 ≤ t0)
+  pub rows : (length drift ≡ 0 → ⊥)
+      → (length drift ≡ 2 * (l .nc * driftLength l)) × (s .samples .base .0 + l .delay + 4 ≤ t0)
   pub scratch-is : scratch ≡ 2 * (l .nc * l .nsym)
   pub out-is : out ≡ l .n
 
 -- ---- from the conditions
-frame-of : (l : Layout) (s : State) (t0 : ℕ) → framePast l s t0 ≡ false → (s .filtered .base .0 + 35 ≤ t0) × (t0 + reach l + 4 ≤ spanEnd (s .filtered))
+frame-of : (l : Layout) (s : State) (t0 : ℕ) → framePast l s t0 ≡ false
+    → (s .filtered .base .0 + 35 ≤ t0) × (t0 + reach l + 4 ≤ spanEnd (s .filtered))
 unfolding framePast
 frame-of l s t0 h =
     let u = neither (ltb (spanEnd (s .filtered)) (t0 + reach l + 4)) (ltb t0 (s .filtered .base .0 + 35)) h in
     (ltb-false _ _ (u .1), ltb-false _ _ (u .0))
 
 module _ (l : Layout) (i : IsLayout l) (a : Asked) (s : State) (room : ℕ) where
-  in-hand-by : tableFault l (a .markers) (a .phasors) ≡ Clear → wrongState l room s ≡ false → framePast l s (a .t0) ≡ false → InHand l (tablesOf a) s room (a .t0)
+  in-hand-by : tableFault l (a .markers) (a .phasors) ≡ Clear → wrongState l room s ≡ false
+      → framePast l s (a .t0) ≡ false → InHand l (tablesOf a) s room (a .t0)
   in-hand-by f w h =
       let t = tables-of l (a .markers) (a .phasors) (sized l i) f in
       let z = sound l room s w in
       let u = frame-of l s (a .t0) h in
-      record { layout = i; markers-ok = t .0; phasors-ok = t .1; state-ok = z .0; room-is = z .1; from = u .0; to = u .1 }
+      record {
+        layout = i;
+        markers-ok = t .0;
+        phasors-ok = t .1;
+        state-ok = z .0;
+        room-is = z .1;
+        from = u .0;
+        to = u .1;
+      }
 
   pub located-begun : locateFault l a s room ≡ Clear → InHand l (tablesOf a) s room (a .t0)
   unfolding locateFault placeFault
@@ -77,10 +90,12 @@ module _ (l : Layout) (i : IsLayout l) (a : Asked) (s : State) (room : ℕ) wher
   drift-of p w n =
       let e : eqb (length (a .drift)) 0 ≡ false = ne-eqb (length (a .drift)) 0 n in
       let p₁ : ltb (a .t0) (s .samples .base .0 + l .delay + 4) ≡ false = rw e at p in
-      let w₁ = neither (not (eqb (length (a .drift)) (2 * (l .nc * driftLength l)))) (any (λ i. not (inRange (neg one) one (getD (a .drift) i nan))) (length (a .drift))) (rw e at w) in
+      let w₁ = neither (not (eqb (length (a .drift)) (2 * (l .nc * driftLength l))))
+      (any (λ i. not (inRange (neg one) one (getD (a .drift) i nan))) (length (a .drift))) (rw e at w) in
       (eqb-true _ _ (not-false _ (w₁ .0)), ltb-false _ _ p₁)
 
-  pub read-begun : (scratch out : ℕ) → readFault l a s room scratch out ≡ Clear → Begun l (tablesOf a) s room (a .t0) (a .drift) scratch out
+  pub read-begun : (scratch out : ℕ) → readFault l a s room scratch out ≡ Clear
+      → Begun l (tablesOf a) s room (a .t0) (a .drift) scratch out
   unfolding readFault frameFault notInHand wrongBuffers
   read-begun scratch out h =
       let u = clear-both (tableFault l (a .markers) (a .phasors)) _ h in
@@ -115,20 +130,28 @@ module _ (l : Layout) (t : Tables) (s : State) (room t0 : ℕ) (h : InHand l t s
         room-is = h .room-is;
         step-most = rw (w .step-len) (w .filtered-short);
         power-most = rw (w .power-len) (w .filtered-short);
-        step-within = λ i I. record { begun = omega (arith, h .from, w .step-base); inside = omega (arith, h .to, w .step-base, w .step-len) };
-        power-within = λ i I. record { begun = omega (arith, h .from, w .power-base); inside = omega (arith, h .to, w .power-base, w .power-len) };
+        step-within = λ i I. record {
+          begun = omega (arith, h .from, w .step-base);
+          inside = omega (arith, h .to, w .step-base, w .step-len);
+        };
+        power-within = λ i I. record {
+          begun = omega (arith, h .from, w .power-base);
+          inside = omega (arith, h .to, w .power-base, w .power-len);
+        };
         one-base = w .power-base ∙ sym (w .step-base);
         three = late;
         small = omega (arith, h .to, w .filtered-near);
       }
 
-  pub symbols-fit : (drift : List Float) (scratch out : ℕ) → Begun l t s room t0 drift scratch out → (p : ℕ) → t0 ≤ p + 3 → p ≤ t0 + 3
+  pub symbols-fit : (drift : List Float) (scratch out : ℕ)
+      → Begun l t s room t0 drift scratch out → (p : ℕ) → t0 ≤ p + 3 → p ≤ t0 + 3
       → SymbolsFit l room (t .phasors) (s .samples) (s .filtered) drift p
   symbols-fit drift scratch out b p u v =
       let w = h .state-ok in
       record {
         samples-fit = record { layout = h .layout; room-is = h .room-is; samples-short = w .samples-short };
-        filtered-fit = record { layout = h .layout; filtered-short = w .filtered-short; within = filtered-within p u v };
+        filtered-fit =
+            record { layout = h .layout; filtered-short = w .filtered-short; within = filtered-within p u v };
         phasors-ok = h .phasors-ok;
         rows =
             λ some.

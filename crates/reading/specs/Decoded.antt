@@ -27,6 +27,8 @@ pub record DecodedBy (l : Layout) (table : List ℕ) (found : Located) (z : List
   pub out-is : out′ ≡ after (unlessSilent l table z) (λ l. softBits l table z) out
 
 -- of the tracks that a state has in a memory
-abbrev pub AcceptedBy : Layout → Tables → State → List Float → ℕ → List Float → List Float → ReadAnswer → List Float → List Float → Type 0
+abbrev pub AcceptedBy : Layout → Tables → State → List Float → ℕ
+    → List Float → List Float → ReadAnswer → List Float → List Float → Type 0
 AcceptedBy l t s memory t0 drift out r scratch′ out′ =
-    DecodedBy l (t .markers) (located l t (rowsIn l s memory) t0) (symbolsFound l t drift (rowsIn l s memory) t0) out r scratch′ out′
+    DecodedBy l (t .markers) (located l t (rowsIn l s memory) t0)
+    (symbolsFound l t drift (rowsIn l s memory) t0) out r scratch′ out′

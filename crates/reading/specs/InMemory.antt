@@ -51,7 +51,8 @@ memoryRows l s memory =
       power = powersIn l memory (s .power);
     }
 
-pub memory-same : (l : Layout) (s : State) (memory drift : List Float) (t0 : ℕ) → 3 ≤ t0 → ((length drift ≡ 0 → ⊥) → l .delay + 4 ≤ t0)
+pub memory-same : (l : Layout) (s : State) (memory drift : List Float) (t0 : ℕ)
+    → 3 ≤ t0 → ((length drift ≡ 0 → ⊥) → l .delay + 4 ≤ t0)
     → SameRows l drift t0 (rowsIn l s memory) (memoryRows l s memory)
 unfolding memoryRows
 memory-same l s memory drift t0 h g =
@@ -66,15 +67,21 @@ memory-same l s memory drift t0 h g =
 
 -- so that what is found, and its symbols, are those of the memory
 module _ (l : Layout) (j : IsLayout l) (t : Tables) (s : State) (memory : List Float) (t0 : ℕ) (h : 3 ≤ t0) where
-  pub found-in : located l t (rowsIn l s memory) t0 ≡ bestAround l t (stepsIn l memory (s .step)) (powersIn l memory (s .power)) t0
+  pub found-in : located l t (rowsIn l s memory) t0
+      ≡ bestAround l t (stepsIn l memory (s .step)) (powersIn l memory (s .power)) t0
   unfolding located memoryRows
-  found-in = located-same l j t [] t0 (rowsIn l s memory) (memoryRows l s memory) (memory-same l s memory [] t0 h (λ n. absurd (n refl)))
+  found-in =
+      located-same l j t [] t0 (rowsIn l s memory) (memoryRows l s memory)
+      (memory-same l s memory [] t0 h (λ n. absurd (n refl)))
 
   pub symbols-in : (drift : List Float) → ((length drift ≡ 0 → ⊥) → l .delay + 4 ≤ t0)
       → symbolsFound l t drift (rowsIn l s memory) t0
-      ≡ symbolsAt l (t .phasors) drift (samplesIn l memory (s .samples)) (filteredIn l memory (s .filtered)) (positionOf l t (rowsIn l s memory) t0)
+      ≡ symbolsAt l (t .phasors) drift (samplesIn l memory (s .samples))
+      (filteredIn l memory (s .filtered)) (positionOf l t (rowsIn l s memory) t0)
   unfolding symbolsFound memoryRows
   symbols-in drift g =
       symbols-same l j t drift t0 (rowsIn l s memory) (memoryRows l s memory) (memory-same l s memory drift t0 h g)
-      ∙ ap (λ (x : Located). symbolsAt l (t .phasors) drift (samplesIn l memory (s .samples)) (filteredIn l memory (s .filtered)) (x .t .0))
-      (sym (located-same l j t [] t0 (rowsIn l s memory) (memoryRows l s memory) (memory-same l s memory [] t0 h (λ n. absurd (n refl)))))
+      ∙ ap (λ (x : Located). symbolsAt l (t .phasors) drift
+      (samplesIn l memory (s .samples)) (filteredIn l memory (s .filtered)) (x .t .0))
+      (sym (located-same l j t [] t0 (rowsIn l s memory) (memoryRows l s memory)
+      (memory-same l s memory [] t0 h (λ n. absurd (n refl)))))

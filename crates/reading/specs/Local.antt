@@ -29,17 +29,20 @@ use Rattle.reading.specs.Rows.{Rows}
 use Rattle.reading.specs.Reading.{positionOf, located, symbolsFound}
 
 -- ---- where a reading at t0 looks
--- rows that agree there: on every carrier from t0 − 3 up to t0 + 3 + reach; samples only with drift rows, `delay` farther on either side
+-- rows that agree there: on every carrier from t0 − 3 up to t0 + 3 + reach; samples only with drift rows,
+-- `delay` farther on either side
 pub record SameRows (l : Layout) (drift : List Float) (t0 : ℕ) (r q : Rows) : Type 0 where
   pub late : 3 ≤ t0
   pub step : (c i : ℕ) → c < l .nc → t0 ≤ i + 3 → i ≤ t0 + 3 + reach l → r .step c i ≡ q .step c i
   pub power : (c i : ℕ) → c < l .nc → t0 ≤ i + 3 → i ≤ t0 + 3 + reach l → r .power c i ≡ q .power c i
   pub filtered : (c i : ℕ) → c < l .nc → t0 ≤ i + 3 → i ≤ t0 + 3 + reach l → r .filtered c i ≡ q .filtered c i
   pub drift-late : (length drift ≡ 0 → ⊥) → l .delay + 4 ≤ t0
-  pub samples : (length drift ≡ 0 → ⊥) → (i : ℕ) → t0 ≤ i + l .delay + 3 → i ≤ t0 + 3 + reach l + l .delay → r .samples i ≡ q .samples i
+  pub samples : (length drift ≡ 0 → ⊥)
+      → (i : ℕ) → t0 ≤ i + l .delay + 3 → i ≤ t0 + 3 + reach l + l .delay → r .samples i ≡ q .samples i
 
 -- the position found is at most 3 from t0
-pub position-near : (l : Layout) (t : Tables) (r : Rows) (t0 : ℕ) → 3 ≤ t0 → (t0 ≤ positionOf l t r t0 + 3) × (positionOf l t r t0 ≤ t0 + 3)
+pub position-near : (l : Layout) (t : Tables) (r : Rows) (t0 : ℕ) → 3 ≤ t0
+    → (t0 ≤ positionOf l t r t0 + 3) × (positionOf l t r t0 ≤ t0 + 3)
 unfolding located bestAround
 position-near l t r t0 h =
     let g = best-within (chiIn l t (r .step) (r .power)) (t0 - 3) 6 in
@@ -65,16 +68,19 @@ module _ (l : Layout) (i : IsLayout l) (t : Tables) (d e q p : ℕ → ℕ → C
 sample-from : (t0 p d s j : ℕ) → t0 ≤ p + 3 → t0 ≤ p - d - 1 + (s + 1 + j) + d + 3
 sample-from t0 p d s j h = omega arith
 
-sample-to : (t0 p d s j n m : ℕ) → p ≤ t0 + 3 → d + 1 ≤ p → s ≤ m → n ≡ 2 * d + 1 → j < n → p - d - 1 + (s + 1 + j) ≤ t0 + 3 + m + d
+sample-to : (t0 p d s j n m : ℕ) → p ≤ t0 + 3 → d + 1 ≤ p → s ≤ m → n ≡ 2 * d + 1 → j < n
+    → p - d - 1 + (s + 1 + j) ≤ t0 + 3 + m + d
 sample-to t0 p d s j n m h k g e u = omega arith
 
-module _ (l : Layout) (i : IsLayout l) (t : Tables) (drift : List Float) (t0 : ℕ) (r q : Rows) (w : SameRows l drift t0 r q) where
+module _ (l : Layout) (i : IsLayout l) (t : Tables) (drift : List Float)
+    (t0 : ℕ) (r q : Rows) (w : SameRows l drift t0 r q) where
   pub located-same : located l t r t0 ≡ located l t q t0
   unfolding located
   located-same = around-same l i t (r .step) (q .step) (r .power) (q .power) t0 (w .late) (w .step) (w .power)
 
   module _ (p c k : ℕ) (from : t0 ≤ p + 3) (to : p ≤ t0 + 3) (C : c < l .nc) (K : k < l .nsym) where
-    drift-same : (length drift ≡ 0 → ⊥) → driftSymbol l drift (r .samples) p c k ≡ driftSymbol l drift (q .samples) p c k
+    drift-same : (length drift ≡ 0 → ⊥)
+        → driftSymbol l drift (r .samples) p c k ≡ driftSymbol l drift (q .samples) p c k
     unfolding driftSymbol
     drift-same d =
         let z : Sized l = sized l i in
@@ -83,12 +89,17 @@ module _ (l : Layout) (i : IsLayout l) (t : Tables) (drift : List Float) (t0 : �
         let m : stagger (l .nc) c + 32 * k ≤ reach l = omega arith in
         sum-ext _ _ (l .taps)
         (λ j J.
-        rw (w .samples d (p - l .delay - 1 + (stagger (l .nc) c + 32 * k + 1 + j)) (sample-from t0 p (l .delay) (stagger (l .nc) c + 32 * k) j from)
-        (sample-to t0 p (l .delay) (stagger (l .nc) c + 32 * k) j (l .taps) (reach l) to (omega arith) m (z .taps-are) J)))
+        rw (w .samples d (p - l .delay - 1 + (stagger (l .nc) c + 32 * k + 1 + j))
+        (sample-from t0 p (l .delay) (stagger (l .nc) c + 32 * k) j from)
+        (sample-to t0 p (l .delay) (stagger (l .nc) c + 32 * k) j
+        (l .taps) (reach l) to (omega arith) m (z .taps-are) J)))
 
-    symbol-same : symbolAt l (t .phasors) drift (r .samples) (r .filtered) p c k ≡ symbolAt l (t .phasors) drift (q .samples) (q .filtered) p c k
+    symbol-same : symbolAt l (t .phasors) drift (r .samples) (r .filtered) p c k
+        ≡ symbolAt l (t .phasors) drift (q .samples) (q .filtered) p c k
     unfolding symbolAt
-    symbol-same = ap (λ (x : Complex). cmul x (phasor l (t .phasors) c k)) (go (eqb (length drift) 0) (λ e. eqb-false (length drift) 0 e))
+    symbol-same =
+        ap (λ (x : Complex). cmul x (phasor l (t .phasors) c k))
+        (go (eqb (length drift) 0) (λ e. eqb-false (length drift) 0 e))
       where
         go : (b : Bool) → (b ≡ false → length drift ≡ 0 → ⊥)
             → cond b (filteredSymbol l (r .filtered) p c k) (driftSymbol l drift (r .samples) p c k)
@@ -104,6 +115,9 @@ module _ (l : Layout) (i : IsLayout l) (t : Tables) (drift : List Float) (t0 : �
       let n = position-near l t q t0 (w .late) in
       let z : Sized l = sized l i in
       let P : 0 < l .nsym = omega (arith, z .nsym-least) in
-      ap (λ (p : ℕ). symbolsAt l (t .phasors) drift (r .samples) (r .filtered) p) (ap (λ (x : Located). x .t .0) located-same)
+      ap (λ (p : ℕ). symbolsAt l (t .phasors) drift (r .samples) (r .filtered) p)
+      (ap (λ (x : Located). x .t .0) located-same)
       ∙ tabulate-ext _ _ (l .nc * l .nsym)
-      (λ j J. symbol-same (positionOf l t q t0) (j / l .nsym) (j % l .nsym) (n .0) (n .1) (div-lt-iff-lt-mul P .1 J) (mod-lt j P))
+      (λ j J.
+      symbol-same (positionOf l t q t0) (j / l .nsym) (j % l .nsym) (n .0) (n .1)
+      (div-lt-iff-lt-mul P .1 J) (mod-lt j P))

@@ -1,5 +1,5 @@
--- What the calls `locate` and `read` come to: rows 1 to 7, 11, 17 and 22 to 24 (01, "Where each fault is met"), or the reading.
--- Definitions only.
+-- What the calls `locate` and `read` come to. Definitions only.
+-- Rows 1 to 7, 11, 17 and 22 to 24 (01, "Where each fault is met"), or the reading.
 use Prim.Native.Nat.{ℕ}
 use mathlib.Core.Path.{_≡_}
 use mathlib.Core.Bool.{cond}
@@ -70,7 +70,8 @@ locateFault l a s room = orElse (tableFault l (a .markers) (a .phasors)) (placeF
 -- what it answers: the number of the first fault, or what it finds
 unfoldable pub locateOutcome : Asked → State → List Float → Outcome Located
 locateOutcome a s memory =
-    andThen (chosen (a .bandwidth) (a .rec)) (λ l. judged (locateFault l a s (length memory)) (answered (foundIn l a s memory)))
+    andThen (chosen (a .bandwidth) (a .rec))
+    (λ l. judged (locateFault l a s (length memory)) (answered (foundIn l a s memory)))
 
 -- the code's answer in 01's terms
 abbrev pub locateAnswered : LocateAnswer → Outcome Located
@@ -135,7 +136,8 @@ abbrev pub softLeft : Asked → State → List Float → Layout → List Float
 softLeft a s memory l = softBits l (a .markers) (symbolsRead l a s memory)
 
 -- the call: its answer, and what it leaves. "After a refusal nothing lent has changed, save 24"
-pub record ReadBy (a : Asked) (s : State) (memory scratch out : List Float) (r : ReadAnswer) (scratch′ out′ : List Float)
+pub record ReadBy (a : Asked) (s : State) (memory scratch out : List Float)
+    (r : ReadAnswer) (scratch′ out′ : List Float)
     : Type 0 where
   pub answer : readAnswered r ≡ readOutcome a s memory (length scratch) (length out)
   pub scratch-is :

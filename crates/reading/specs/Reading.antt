@@ -26,7 +26,8 @@ positionOf l t r t0 = located l t r t0 .t .0
 unfoldable pub symbolsFound : Layout → Tables → List Float → Rows → ℕ → List Complex
 symbolsFound l t drift r t0 = symbolsAt l (t .phasors) drift (r .samples) (r .filtered) (positionOf l t r t0)
 
--- "A reading's result is t, its chi, the pilot sum, g, the noise variance and the median": of a frame found, with symbols z
+-- "A reading's result is t, its chi, the pilot sum, g, the noise variance and the median": of a frame found,
+-- with symbols z
 unfoldable pub readingOf : Layout → List ℕ → Located → List Complex → Reading
 readingOf l table found z =
     record { located = found; g = gainOf l table z; nvar = varianceOf l table z; median = phaseMedian l table z }

@@ -8,7 +8,8 @@ ghost use Rattle.laws.specs.Tests.{inRange};
 ghost use Rattle.level.specs.Sized.{Sized};
 ghost use Rattle.rx.specs.Near.{Near};
 ghost use Rattle.rx.specs.Conditions.{one};
-ghost use Rattle.reading.specs.Conditions.{wrongBuffers, framePast, samplesPast, notInHand, wrongDrift, wrongGain};
+ghost use Rattle.reading.specs.Conditions.{wrongBuffers, framePast, samplesPast};
+ghost use Rattle.reading.specs.Conditions.{notInHand, wrongDrift, wrongGain};
 use level::Layout;
 use rx::State;
 use rx::places;
@@ -67,7 +68,8 @@ pub fn not_in_hand(l: Layout, s: State, t0: u64, drift: &[f64]) -> bool
 }
 
 fn outside_one(drift: &[f64]) -> bool
-    ensures { λ r. ⌜ r ≡ any (λ i. not (inRange (neg one) one (getD (now (drift .entry)) i nan))) (length (now (drift .entry))) ⌝ }
+    ensures { λ r. ⌜ r ≡ any (λ i. not (inRange (neg one) one (getD (now (drift .entry)) i nan)))
+        (length (now (drift .entry))) ⌝ }
 {
     let mut i = 0;
     while i < drift.len() {

@@ -35,7 +35,8 @@ pub fn locate_fault(
     t0: Position,
 ) -> Fault
     requires { ⌜ IsLayout l ⌝ }
-    ensures { λ r. ⌜ r ≡ orElse (tableFault l (now (markers .entry)) (now (phasors .entry))) (placeFault l s room (t0 .0)) ⌝ }
+    ensures { λ r. ⌜ r ≡ orElse (tableFault l (now (markers .entry)) (now (phasors .entry)))
+        (placeFault l s room (t0 .0)) ⌝ }
 {
     let fault = dat::table_fault(l, markers, phasors);
     match fault {
@@ -85,7 +86,8 @@ pub fn read_fault(
     out: usize,
 ) -> Fault
     requires { ⌜ IsLayout l ⌝ }
-    ensures { λ r. ⌜ r ≡ orElse (tableFault l (now (markers .entry)) (now (phasors .entry))) (frameFault l s room (t0 .0) (now (drift .entry)) scratch out) ⌝ }
+    ensures { λ r. ⌜ r ≡ orElse (tableFault l (now (markers .entry)) (now (phasors .entry)))
+        (frameFault l s room (t0 .0) (now (drift .entry)) scratch out) ⌝ }
 {
     let fault = dat::table_fault(l, markers, phasors);
     match fault {

@@ -1,4 +1,5 @@
-// A reading (01, "Reading"; `decode` of rx/psk.rs): the frame around a position, located and read from a receiver's tracks.
+// A reading (01, "Reading"; `decode` of rx/psk.rs): the frame around a position, located and read from a receiver's
+// tracks.
 ghost use mathlib.Core.Path.{_≡_};
 ghost use mathlib.Core.List.{[]};
 ghost use Prim.Native.Nat.{_+_, _*_, _≤_};
@@ -53,7 +54,8 @@ fn find(
     t0: Position,
 ) -> Located
     requires { ⌜ InHand l (record { markers = now markers; phasors = now phasors }) s (length (now memory)) (t0 .0) ⌝ }
-    ensures { λ r. ⌜ r ≡ located l (record { markers = now (markers .entry); phasors = now (phasors .entry) }) (rowsIn l s (now (memory .entry))) (t0 .0) ⌝ }
+    ensures { λ r. ⌜ r ≡ located l (record { markers = now (markers .entry); phasors = now (phasors .entry) })
+        (rowsIn l s (now (memory .entry))) (t0 .0) ⌝ }
 {
     let step = s.step;
     let power = s.power;
@@ -70,7 +72,8 @@ pub fn locate(
     memory: &[f64],
     t0: Position,
 ) -> LocateAnswer
-    ensures { λ r. ⌜ LocatedBy (asked bandwidth rec (now (markers .entry)) (now (phasors .entry)) (t0 .0) []) s (now (memory .entry)) r ⌝ }
+    ensures { λ r. ⌜ LocatedBy (asked bandwidth rec (now (markers .entry)) (now (phasors .entry)) (t0 .0) [])
+        s (now (memory .entry)) r ⌝ }
 {
     let chosen = level::choose(bandwidth, rec);
     match chosen {
@@ -94,7 +97,8 @@ fn decode(
     out: &mut [f64],
 ) -> ReadAnswer
     requires { ⌜ Framed l (now markers) (length (now scratch)) × (length (now out) ≡ l .n) ⌝ }
-    ensures { λ r. ⌜ DecodedBy l (now (markers .entry)) found (pairs (now (scratch .entry))) (now (out .entry)) r (now (scratch .exit)) (now (out .exit)) ⌝ }
+    ensures { λ r. ⌜ DecodedBy l (now (markers .entry)) found (pairs (now (scratch .entry)))
+        (now (out .entry)) r (now (scratch .exit)) (now (out .exit)) ⌝ }
 {
     let median = decode::median(l, markers, scratch);
     decode::steps(l, markers, scratch);
@@ -126,8 +130,11 @@ fn accept(
     scratch: &mut [f64],
     out: &mut [f64],
 ) -> ReadAnswer
-    requires { ⌜ Begun l (record { markers = now markers; phasors = now phasors }) s (length (now memory)) (t0 .0) (now drift) (length (now scratch)) (length (now out)) ⌝ }
-    ensures { λ r. ⌜ AcceptedBy l (record { markers = now (markers .entry); phasors = now (phasors .entry) }) s (now (memory .entry)) (t0 .0) (now (drift .entry)) (now (out .entry)) r (now (scratch .exit)) (now (out .exit)) ⌝ }
+    requires { ⌜ Begun l (record { markers = now markers; phasors = now phasors })
+        s (length (now memory)) (t0 .0) (now drift) (length (now scratch)) (length (now out)) ⌝ }
+    ensures { λ r. ⌜ AcceptedBy l (record { markers = now (markers .entry); phasors = now (phasors .entry) })
+        s (now (memory .entry)) (t0 .0) (now (drift .entry)) (now (out .entry))
+        r (now (scratch .exit)) (now (out .exit)) ⌝ }
 {
     let found = find(l, markers, phasors, s, memory, t0);
     let samples = s.samples;
@@ -150,7 +157,10 @@ pub fn read(
     scratch: &mut [f64],
     out: &mut [f64],
 ) -> ReadAnswer
-    ensures { λ r. ⌜ ReadBy (asked bandwidth rec (now (markers .entry)) (now (phasors .entry)) (t0 .0) (now (drift .entry))) s (now (memory .entry)) (now (scratch .entry)) (now (out .entry)) r (now (scratch .exit)) (now (out .exit)) ⌝ }
+    ensures { λ r. ⌜ ReadBy
+        (asked bandwidth rec (now (markers .entry)) (now (phasors .entry)) (t0 .0) (now (drift .entry)))
+        s (now (memory .entry)) (now (scratch .entry)) (now (out .entry))
+        r (now (scratch .exit)) (now (out .exit)) ⌝ }
 {
     let chosen = level::choose(bandwidth, rec);
     match chosen {

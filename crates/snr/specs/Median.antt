@@ -1,4 +1,5 @@
--- "the answer is the median of the |im| values" (01, the stand-in for `phase_error_snr`; `median` of dsp.rs). Definitions only.
+-- "the answer is the median of the |im| values" (01, the stand-in for `phase_error_snr`). Definitions only.
+-- `median` of dsp.rs.
 use Prim.Native.Nat.{ℕ, zero, suc, _-_, _/_, _%_}
 use mathlib.Core.Bool.{Bool, not, cond}
 use mathlib.Core.List.{List, [], _∷_}
@@ -32,7 +33,8 @@ sortedOf v (suc n) = insertInto (v n) (sortedOf v n)
 unfoldable pub middleOf : List Float → Float
 middleOf a =
     let half = length a / 2 in
-    cond (eqb (length a % 2) 1) (getD a half nan) (mul binary64 (ofBits binary64 0x3fe0_0000_0000_0000) (add binary64 (getD a (half - 1) nan) (getD a half nan)))
+    cond (eqb (length a % 2) 1) (getD a half nan)
+    (mul binary64 (ofBits binary64 0x3fe0_0000_0000_0000) (add binary64 (getD a (half - 1) nan) (getD a half nan)))
 
 -- the errors of the first n products after the turn r, in order
 unfoldable pub sortedErrors : (ℕ → Complex) → Complex → ℕ → List Float

@@ -19,5 +19,6 @@ unfolding medianOf directionSum sortedErrors
 median-same p q n h =
     let s : directionSum p n ≡ directionSum q n = sum-ext _ _ n (λ k l. ap directionOf (h k l)) in
     ap middleOf
-    (sorted-same (λ k. errorOf (phaseTurn (directionSum p n)) (p k)) (λ k. errorOf (phaseTurn (directionSum q n)) (q k)) n
+    (sorted-same (λ k. errorOf (phaseTurn (directionSum p n)) (p k))
+    (λ k. errorOf (phaseTurn (directionSum q n)) (q k)) n
     (λ k l. ap₂ errorOf (ap phaseTurn s) (h k l)))

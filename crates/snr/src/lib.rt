@@ -1,4 +1,5 @@
-// The median of the marker products' phase errors (01, the stand-in for `phase_error_snr`; rx/snr.rs, and `median` of dsp.rs).
+// The median of the marker products' phase errors (01, the stand-in for `phase_error_snr`; rx/snr.rs, and `median` of
+// dsp.rs).
 ghost use mathlib.Core.Path.{_≡_};
 ghost use mathlib.Core.List.{_++_};
 ghost use Prim.Native.Nat.{_+_, _*_, _<_, _≤_};
@@ -93,7 +94,8 @@ fn greater(x: f64, y: f64) -> f64
     x
 }
 
-// Puts x among the first k values, which are in order: each place keeps the lesser of two, and the greater is carried on.
+// Puts x among the first k values, which are in order: each place keeps the lesser of two,
+// and the greater is carried on.
 fn insert(a: &mut [f64], k: usize, x: f64)
     requires { ⌜ k < length (now a) ⌝ }
     ensures { λ _. ⌜ now (a .exit) ≡ insertInto x (take k (now (a .entry))) ++ drop (k + 1) (now (a .entry)) ⌝ }

@@ -2,8 +2,7 @@
 use Prim.Native.Nat.{ℕ, _+_, _*_, _/_, _%_, _<_}
 use mathlib.Core.Path.{_≡_, refl, sym, ap, ap₂, _∙_}
 use mathlib.Core.List.{List}
-use native.Mathlib.Nat.{add-zero, div-add-mod', div-lt-iff-lt-mul, mod-lt, mul-add-div-right, div-eq-of-lt}
-use native.Mathlib.Nat.{mul-add-mod-self-right, mod-eq-of-lt}
+use native.Mathlib.Nat.{div-add-mod', div-lt-iff-lt-mul, mod-lt}
 use native.Mathlib.Omega.{arith}
 use lib.ListN.{length, getD}
 use lib.Ieee.{Float}
@@ -12,6 +11,7 @@ use Rattle.complex.specs.declared.Complex.{Complex}
 use Rattle.complex.specs.Arithmetic.{czero, cmul}
 use Rattle.complex.specs.Lists.{tabulate, getD-tabulate}
 use Rattle.complex.specs.Pairs.{cget, cfilled}
+use Rattle.complex.specs.Rows.{quotient, remainder}
 use Rattle.level.specs.declared.Layout.{Layout}
 use Rattle.level.specs.Rows.{IsLayout}
 use Rattle.level.specs.Sized.{sized}
@@ -36,15 +36,6 @@ numbered l k i h =
       symbol = mod-lt k some;
       number = div-add-mod' k (l .nsym);
     }
-
--- ---- entry k of row i, of rows of w
-pub quotient : (w i k : ℕ) → k < w → (i * w + k) / w ≡ i
-quotient w i k h =
-    let p : 0 < w = omega arith in
-    mul-add-div-right p i k ∙ ap (λ (x : ℕ). i + x) (div-eq-of-lt h) ∙ add-zero i
-
-pub remainder : (w i k : ℕ) → k < w → (i * w + k) % w ≡ k
-remainder w i k h = mul-add-mod-self-right i w k ∙ mod-eq-of-lt h
 
 -- ---- symbols of tracks in a memory
 module _ (l : Layout) (memory phasors : List Float) (t : ℕ) where

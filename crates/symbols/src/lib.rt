@@ -1,4 +1,5 @@
-// The symbols of a frame, from the filtered tracks or from samples turned by drift rows (01, "Reading"; `symbols` of rx/psk.rs).
+// The symbols of a frame, from the filtered tracks or from samples turned by drift rows (01, "Reading"; `symbols` of
+// rx/psk.rs).
 ghost use mathlib.Core.Path.{_≡_};
 ghost use Prim.Native.Nat.{_*_, _<_, _≤_};
 ghost use lib.ListN.{length};
@@ -9,7 +10,9 @@ ghost use Rattle.level.specs.Sized.{Sized};
 ghost use Rattle.dat.specs.Accepted.{Phasors};
 ghost use Rattle.filter.specs.Carrier.{IsTaps};
 ghost use Rattle.symbols.specs.Symbols.{driftLength, filteredSymbol, symbolsAt};
-ghost use Rattle.symbols.specs.Standing.{samplesIn, filteredIn, placeOf, turnedAt, rowSymbol, storedFrom, filteredIth, driftIth, SamplesFit, FilteredFit, DriftRows, RowFits, SymbolsFit};
+ghost use Rattle.symbols.specs.Standing.{samplesIn, filteredIn, placeOf, turnedAt, rowSymbol};
+ghost use Rattle.symbols.specs.Standing.{storedFrom, filteredIth, driftIth, SamplesFit};
+ghost use Rattle.symbols.specs.Standing.{FilteredFit, DriftRows, RowFits, SymbolsFit};
 use complex::Complex;
 use level::Layout;
 use track::Span;
@@ -65,8 +68,11 @@ fn turn_row(
     c: usize,
     v: &mut [f64],
 )
-    requires { ⌜ SamplesFit l (length (now memory)) samples × DriftRows l (now drift) t × (c < l .nc) × (2 * driftLength l ≤ length (now v)) ⌝ }
-    ensures { λ _. ⌜ now (v .exit) ≡ cfilled (turnedAt l (now (drift .entry)) (samplesIn l (now (memory .entry)) samples) t c) (driftLength l) (now (v .entry)) ⌝ }
+    requires { ⌜ SamplesFit l (length (now memory)) samples × DriftRows l (now drift) t
+        × (c < l .nc) × (2 * driftLength l ≤ length (now v)) ⌝ }
+    ensures { λ _. ⌜ now (v .exit)
+        ≡ cfilled (turnedAt l (now (drift .entry)) (samplesIn l (now (memory .entry)) samples) t c)
+        (driftLength l) (now (v .entry)) ⌝ }
 {
     let n = drift_length(l);
     let at = c * n;
@@ -93,7 +99,9 @@ fn row_symbol(l: Layout, v: &[f64], taps: &[f64], phasors: &[f64], c: usize, s: 
 // The symbols of carrier c, at its places.
 fn row_symbols(l: Layout, v: &[f64], taps: &[f64], phasors: &[f64], c: usize, out: &mut [f64])
     requires { ⌜ RowFits l (now v) (now taps) (now phasors) c × (length (now out) ≡ 2 * (l .nc * l .nsym)) ⌝ }
-    ensures { λ _. ⌜ now (out .exit) ≡ storedFrom (rowSymbol l (now (v .entry)) (now (taps .entry)) (now (phasors .entry)) c) (c * l .nsym) (l .nsym) (now (out .entry)) ⌝ }
+    ensures { λ _. ⌜ now (out .exit)
+        ≡ storedFrom (rowSymbol l (now (v .entry)) (now (taps .entry)) (now (phasors .entry)) c)
+        (c * l .nsym) (l .nsym) (now (out .entry)) ⌝ }
 {
     let at = c * l.nsym;
     let mut s = 0;
@@ -115,8 +123,11 @@ fn drift_symbols(
     t: u64,
     out: &mut [f64],
 )
-    requires { ⌜ SamplesFit l (length (now memory)) samples × DriftRows l (now drift) t × Phasors l (now phasors) × IsTaps l (now taps) × (length (now out) ≡ 2 * (l .nc * l .nsym)) ⌝ }
-    ensures { λ _. ⌜ now (out .exit) ≡ parts (tabulate (driftIth l (now (memory .entry)) (now (phasors .entry)) samples (now (drift .entry)) t) (l .nc * l .nsym)) ⌝ }
+    requires { ⌜ SamplesFit l (length (now memory)) samples × DriftRows l (now drift) t
+        × Phasors l (now phasors) × IsTaps l (now taps) × (length (now out) ≡ 2 * (l .nc * l .nsym)) ⌝ }
+    ensures { λ _. ⌜ now (out .exit)
+        ≡ parts (tabulate (driftIth l (now (memory .entry)) (now (phasors .entry)) samples (now (drift .entry)) t)
+        (l .nc * l .nsym)) ⌝ }
 {
     let mut v = [0.0; 29038];
     let mut c = 0;
@@ -129,7 +140,8 @@ fn drift_symbols(
 
 // Symbol k of the frame at t, carrier by carrier, from the filtered tracks.
 fn symbol(l: Layout, memory: &[f64], phasors: &[f64], filtered: Span, t: u64, k: usize) -> Complex
-    requires { ⌜ FilteredFit l filtered t × (length (now memory) ≡ 2 * memoryLength l) × Phasors l (now phasors) × (k < l .nc * l .nsym) ⌝ }
+    requires { ⌜ FilteredFit l filtered t × (length (now memory) ≡ 2 * memoryLength l)
+        × Phasors l (now phasors) × (k < l .nc * l .nsym) ⌝ }
     ensures { λ r. ⌜ r ≡ filteredIth l (now (memory .entry)) (now (phasors .entry)) filtered t k ⌝ }
 {
     let z = filtered_symbol(l, memory, filtered, t, k / l.nsym, k % l.nsym);
@@ -145,8 +157,10 @@ fn filtered_symbols(
     t: u64,
     out: &mut [f64],
 )
-    requires { ⌜ FilteredFit l filtered t × (length (now memory) ≡ 2 * memoryLength l) × Phasors l (now phasors) × (length (now out) ≡ 2 * (l .nc * l .nsym)) ⌝ }
-    ensures { λ _. ⌜ now (out .exit) ≡ parts (tabulate (filteredIth l (now (memory .entry)) (now (phasors .entry)) filtered t) (l .nc * l .nsym)) ⌝ }
+    requires { ⌜ FilteredFit l filtered t × (length (now memory) ≡ 2 * memoryLength l)
+        × Phasors l (now phasors) × (length (now out) ≡ 2 * (l .nc * l .nsym)) ⌝ }
+    ensures { λ _. ⌜ now (out .exit)
+        ≡ parts (tabulate (filteredIth l (now (memory .entry)) (now (phasors .entry)) filtered t) (l .nc * l .nsym)) ⌝ }
 {
     let n = l.nc * l.nsym;
     let mut k = 0;
@@ -168,8 +182,11 @@ pub fn symbols(
     t: u64,
     out: &mut [f64],
 )
-    requires { ⌜ SymbolsFit l (length (now memory)) (now phasors) samples filtered (now drift) t × (length (now out) ≡ 2 * (l .nc * l .nsym)) ⌝ }
-    ensures { λ _. ⌜ now (out .exit) ≡ parts (symbolsAt l (now (phasors .entry)) (now (drift .entry)) (samplesIn l (now (memory .entry)) samples) (filteredIn l (now (memory .entry)) filtered) t) ⌝ }
+    requires { ⌜ SymbolsFit l (length (now memory)) (now phasors) samples filtered (now drift) t
+        × (length (now out) ≡ 2 * (l .nc * l .nsym)) ⌝ }
+    ensures { λ _. ⌜ now (out .exit)
+        ≡ parts (symbolsAt l (now (phasors .entry)) (now (drift .entry))
+        (samplesIn l (now (memory .entry)) samples) (filteredIn l (now (memory .entry)) filtered) t) ⌝ }
 {
     if drift.len() == 0 {
         filtered_symbols(l, memory, phasors, filtered, t, out);
