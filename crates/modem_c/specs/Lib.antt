@@ -3,4 +3,3 @@ pub mod Calls
 pub mod ReadingCalls
 pub mod Round
 pub mod Series
-pub mod CallLists

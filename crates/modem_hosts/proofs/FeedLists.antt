@@ -8,11 +8,11 @@ use Rattle.rx.specs.declared.FeedAnswer.the-variants.{Accepted, Refused}
 use Rattle.rx.specs.Feed.{Given, outcome}
 use Rattle.modem.specs.Ideal.{verdict}
 use Rattle.modem.specs.Calls.{none, next, detections, answersOf}
 use Rattle.modem_c.specs.Calls.{codeOf, LentState, LentRelease, feedRelease, FeedCall}
 use Rattle.modem_c.specs.Series.{fed-read}
-use Rattle.modem_c.specs.CallLists as list
-use Rattle.modem_c.specs.CallLists.{Reply, handed, handedOver, FedAs, FeedsRead}
-use Rattle.modem_c.proofs.Codes.{handed-refused, handed-released}
+use Rattle.modem_hosts.specs.CallLists as list
+use Rattle.modem_hosts.specs.CallLists.{Reply, handed, handedOver, FedAs, FeedsRead}
+use Rattle.modem_hosts.proofs.Codes.{handed-refused, handed-released}
 
 code-is : (a : FeedAnswer) → codeOf (feedRelease a) ≡ codeOf (verdict (outcome a))
 code-is (Accepted r) = refl

@@ -18,8 +18,8 @@ use Rattle.hold.specs.declared.Release.{Release}
 use Rattle.hold.specs.declared.Release.the-variants.{NoRelease, Released}
 use Rattle.hold.specs.History.{Detection}
 use Rattle.hold.specs.Releases.{released}
 use Rattle.modem_c.specs.Calls.{codeOf, LentRelease, releaseAfter}
-use Rattle.modem_c.specs.CallLists.{Reply, handed}
+use Rattle.modem_hosts.specs.CallLists.{Reply, handed}
 
 -- ---- what a host reads
 pub number-positive : (r : Refusal) → 0 < numberOf r

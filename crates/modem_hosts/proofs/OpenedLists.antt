@@ -24,13 +24,13 @@ use Rattle.modem.specs.Follows.{OpenedAs, withoutRoom}
 use Rattle.modem.proofs.Detections.{detections-rule}
 use Rattle.modem.proofs.Refused.{all-refused}
 use Rattle.modem.proofs.Opened.{opened-as, opened-follows}
 use Rattle.modem_c.specs.Numbers.{numbersOf, metricOf}
-use Rattle.modem_c.specs.Calls.{codeOf, LentState, lentState, LentRelease, feedRelease, lengthFault, openedInto, FeedCall}
+use Rattle.modem_c.specs.Calls.{codeOf, LentState, lentState, LentRelease, feedRelease, lengthFault, openedInto, OpenCall, FeedCall}
 use Rattle.modem_c.specs.Series.{opened-read}
-use Rattle.modem_c.specs.CallLists as list
-use Rattle.modem_c.specs.CallLists.{Reply, codes, FeedCalls, stateSaid, Received, NoneReceived, OpenedReceives}
-use Rattle.modem_c.proofs.Codes.{number-positive, Positive, judged-positive, chosen-positive, answers-zero}
-use Rattle.modem_c.proofs.FeedLists.{feeds-read}
+use Rattle.modem_hosts.specs.CallLists as list
+use Rattle.modem_hosts.specs.CallLists.{Reply, codes, FeedCalls, stateSaid, Received, NoneReceived, OpenedReceives}
+use Rattle.modem_hosts.proofs.Codes.{number-positive, Positive, judged-positive, chosen-positive, answers-zero}
+use Rattle.modem_hosts.proofs.FeedLists.{feeds-read}
 
 -- ---- an opening that answers 0 is answered
 never {ℓ} : {A : Type 0} {X : Type ℓ} {k : ℕ} {a : A} → refused k ≡ answered a → X
@@ -61,6 +61,13 @@ module _ (hz rec : ℕ) (markers : List ℕ) (phasors : List Float) (start : ℕ
           → andThen o (λ l. judged (orElse (tableFault l markers phasors) (startFault start book)) (answered (openedState l start))) ≡ answered s
       go (refused k) e = never e
       go (answered l) e = judge (tableFault l markers phasors) (lengthFault 19 state) (startFault start book) (openedState l start) e
+
+  -- with the state that its numbers say
+  pub opened-answers : (metric : Float) (state′ : List ℕ) (metric′ : Float) → OpenCall hz rec markers phasors start book state metric 0 state′ metric′
+      → openOutcome hz rec markers phasors start book ≡ answered (stateSaid (lentState state′ metric′))
+  opened-answers metric state′ metric′ c =
+      let s = answers-zero (openedInto hz rec markers phasors start book state) opened-positive (sym (c .code-is)) in
+      rw (opened-read hz rec markers phasors start book state metric 0 state′ metric′ c (s .value) (s .is)) (opened-inner (s .value) (s .is))
 
 -- ---- feeds that are all refused leave what they were lent
 abbrev AllPositive : List ℕ → Type 0
@@ -129,10 +136,9 @@ module _ (hz rec start : ℕ) (lent : LentState) (o : OpenedAs hz rec start (sta
 
 pub opened-receives : OpenedReceives
 opened-receives hz rec markers phasors start book state metric state′ metric′ c =
-    let s = answers-zero (openedInto hz rec markers phasors start book state) (opened-positive hz rec markers phasors start book state) (sym (c .code-is)) in
     let o : OpenedAs hz rec start (stateSaid (lentState state′ metric′)) =
-    rw (opened-read hz rec markers phasors start book state metric 0 state′ metric′ c (s .value) (s .is))
-    (opened-as hz rec markers phasors start book (s .value) (opened-inner hz rec markers phasors start book state (s .value) (s .is))) in
+    opened-as hz rec markers phasors start book (stateSaid (lentState state′ metric′))
+    (opened-answers hz rec markers phasors start book state metric state′ metric′ c) in
     record {
       layout = o .layout;
       chosen-is = o .chosen-is;
