@@ -9,18 +9,19 @@ use Rattle.level.specs.declared.Layout.{Layout}
 use Rattle.level.specs.Rows.{IsLayout}
 use Rattle.level.specs.Sized.{sized}
 use Rattle.track.specs.declared.Span.{Span}
+use Rattle.track.specs.Memory.{partLength}
 use Rattle.hold.specs.declared.Hold.{Hold}
 use Rattle.hold.specs.declared.Offered.{Offered}
 use Rattle.chi.specs.declared.Sum.{Sum}
 use Rattle.chi.specs.declared.Sum.the-variants.{Pilot, Data}
 use Rattle.chi.specs.Table.{perCarrier, Tabled, TableRoom}
 use Rattle.chi.specs.Cells.{kept}
-use Rattle.chi.specs.Dot.{DotFits}
+use Rattle.blocks.specs.Tables.{rows-fit}
 use Rattle.search.specs.Chi.{Tables, chiAt}
 use Rattle.search.specs.Search.{offersFrom}
-use Rattle.search.specs.Fits.{stepsIn, powersIn, offersIn, Searched, SearchFits}
+use Rattle.search.specs.Fits.{stepsIn, powersIn, offersIn, Searched, TrackFits, SearchFits}
 use Rattle.search.specs.Flat.{flatMetric, FlatFits, Built}
-use Rattle.search.specs.FlatChi.{chi-fits, chi-is}
+use Rattle.search.specs.FlatChi.{chi-is}
 use Rattle.search.specs.Offers.{offers-ext}
 
 module _ (l : Layout) (t : Tables) (memory : List Float) (step power : Span) (lo n : ℕ) (h : Hold) (f : SearchFits l t (length memory) step power lo n h)
@@ -29,17 +30,25 @@ module _ (l : Layout) (t : Tables) (memory : List Float) (step power : Span) (lo
   built : Built l t marks markRefs cells cellRefs
   built = record { layout = f .layout; markers-ok = f .markers-ok; marks-tabled = a; cells-tabled = b }
 
-  fits-at : (i : ℕ) → i < n → DotFits (length memory) marks (length markRefs) (lo + 2 * i - step .base .0) × DotFits (length memory) cells (length cellRefs) (lo + 2 * i - step .base .0)
-  fits-at i I =
-      chi-fits l t marks markRefs cells cellRefs built step power (f .one-base) (lo + 2 * i) (f .step-fits .within i I) (f .power-fits .within i I) (length memory) (f .room-is)
-      (f .step-fits .len-most) (f .power-fits .len-most)
+  -- a block of m positions from the i-th on has its frames inside the tracks
+  block-inside : (span : Span) → TrackFits l span lo n → (i m : ℕ) → 0 < m → i + m ≤ n
+      → lo + 2 * i - span .base .0 + 2 * (m - 1) + (l .«max_stagger» + 32 * (l .nsym - 1)) < partLength l
+  block-inside span g i m M I =
+      let a = g .within i (omega arith) .begun in
+      let b = g .within (i + m - 1) (omega arith) .inside in
+      let d = g .len-most in
+      omega arith
 
-  pub built-fits : FlatFits (length memory) marks (length markRefs) cells (length cellRefs) (step .base .0) lo n h
+  pub built-fits : FlatFits (length memory) marks (length markRefs) cells (length cellRefs) (l .nc) (step .base .0) lo n h
   built-fits =
       record {
         begun = λ i I. f .step-fits .within i I .begun;
-        marks-fit = λ i I. fits-at i I .0;
-        cells-fit = λ i I. fits-at i I .1;
+        marks-fit = λ i m M B I.
+            rows-fit Pilot l (t .markers) (t .phasors) (f .layout) (f .markers-ok) marks markRefs a (length memory) m (lo + 2 * i - step .base .0) 9248 9248
+            (f .room-is) M B (block-inside step (f .step-fits) i m M I) (omega arith) (omega arith);
+        cells-fit = λ i m M B I.
+            rows-fit Data l (t .markers) (t .phasors) (f .layout) (f .markers-ok) cells cellRefs b (length memory) m (lo + 2 * i - step .base .0) 9248 9248
+            (f .room-is) M B (rw (f .one-base) at (block-inside power (f .power-fits) i m M I)) (omega arith) (omega arith);
         small = f .small;
         hold-fits = f .hold-fits;
       }

@@ -1,18 +1,135 @@
--- A turn of the search: what it leaves is a search of one position more. Assumes nothing.
-use Prim.Native.Nat.{ℕ, _+_, _*_, _^_, _<_}
-use mathlib.Core.Path.{_≡_}
-use lib.Ieee.{Float}
+-- Offers that go on: at one position more, at a block of positions more. Assumes nothing.
+use Prim.Native.Nat.{ℕ, zero, suc, _+_, _-_, _*_, _^_, _<_, _≤_}
+use mathlib.Core.Path.{_≡_, refl, sym, subst, ap, ap₂, _∙_}
+use mathlib.Core.List.{List, [], _∷_, _++_, append-nil, append-assoc}
+use native.Mathlib.Nat.{add-zero, add-suc}
+use native.Mathlib.Numerals.{add-one}
+use native.Mathlib.Omega.{arith}
+use lib.ListN.{length, getD, take, replicate, length-take, length-replicate, getD-replicate}
+use lib.Seq.{getD-take}
+use lib.Ieee.{Float, nan}
+use Rattle.complex.specs.Arithmetic.{fzero, cx}
+use Rattle.complex.specs.Lists.{tabulate, tabulate-ext}
+use Rattle.chi.specs.Dot.{dotAt}
+use Rattle.blocks.specs.Planes.{pget, Zeros, Dots, RowsFit}
 use Rattle.hold.specs.declared.Hold.{Hold}
+use Rattle.hold.specs.declared.Release.the-variants.{NoRelease}
 use Rattle.hold.specs.declared.Offered.{Offered}
+use Rattle.hold.specs.History.{Offer}
+use Rattle.search.specs.declared.Counts.{Counts}
 use Rattle.search.specs.Chi.{candidateOf}
 use Rattle.search.specs.Search.{offerOf, offersFrom}
 use Rattle.search.specs.Fits.{offeredNext, Searched, HoldFits}
-use Rattle.search.specs.Offers.{offers-next, searched-next, hold-next}
+use Rattle.search.specs.Flat.{countsOf, chiFrom, flatChi, flatMetric}
+use Rattle.search.specs.Block.{offeredAll, offersBy, BlockFits, BlockRoom}
+use Rattle.search.specs.Offers.{searched-none, searched-next, hold-next}
 
-module _ (s r : Offered) (lo i : ℕ) (x : Float) (e : r ≡ offeredNext s (offerOf (lo + 2 * i) x)) where
-  pub turn-searched : (h : Hold) (f : ℕ → Float) → Searched h (offersFrom f lo i) s → x ≡ f (lo + 2 * i) → Searched h (offersFrom f lo (i + 1)) r
-  turn-searched h f w d = rw (offers-next f lo i, ← d, e) (searched-next h (offersFrom f lo i) (offerOf (lo + 2 * i) x) s w)
+-- offers, and then others
+pub all-append : (s : Offered) (os ps : List Offer) → offeredAll (offeredAll s os) ps ≡ offeredAll s (os ++ ps)
+unfolding offeredAll
+all-append s [] ps = refl
+all-append s (o ∷ os) ps = all-append (offeredNext s o) os ps
 
-  pub turn-fits : HoldFits (s .next) → lo + 2 * i < 2 ^ 50 → HoldFits (r .next)
-  unfolding offeredNext
-  turn-fits f h = rw e (hold-next (s .next) (record { 0 = lo + 2 * i }) (candidateOf x) h f)
+-- before the first
+pub all-none : (s : Offered) (g : ℕ → Offer) → s ≡ offeredAll s (tabulate g 0)
+unfolding offeredAll tabulate
+all-none s g = refl
+
+pub search-none : (s : Offered) (f : ℕ → Float) (lo : ℕ) → s ≡ offeredAll s (offersFrom f lo 0)
+unfolding offersFrom
+search-none s f lo = all-none s _
+
+-- one offer more
+pub all-next : (s : Offered) (g : ℕ → Offer) (n : ℕ) → offeredNext (offeredAll s (tabulate g n)) (g n) ≡ offeredAll s (tabulate g (n + 1))
+unfolding offeredAll tabulate
+all-next s g n = rw add-one (all-append s (tabulate g n) (g n ∷ []))
+
+-- the offers of a block more
+tabulate-on : (g : ℕ → Offer) (m n : ℕ) → tabulate g m ++ tabulate (λ k. g (m + k)) n ≡ tabulate g (m + n)
+unfolding tabulate
+tabulate-on g m zero = rw add-zero (append-nil (tabulate g m))
+tabulate-on g m (suc n) =
+    rw add-suc
+    (sym (append-assoc (tabulate g m) (tabulate (λ k. g (m + k)) n) (g (m + n) ∷ []))
+    ∙ ap (λ (os : List Offer). os ++ (g (m + n) ∷ [])) (tabulate-on g m n))
+
+pub search-on : (s t r : Offered) (f : ℕ → Float) (lo m n : ℕ) → t ≡ offeredAll s (offersFrom f lo m) → r ≡ offeredAll t (offersFrom f (lo + 2 * m) n)
+    → r ≡ offeredAll s (offersFrom f lo (m + n))
+unfolding offersFrom
+search-on s t r f lo m n a b =
+    let g : ℕ → Offer = λ i. offerOf (lo + 2 * i) (f (lo + 2 * i)) in
+    let e : tabulate (λ i. offerOf (lo + 2 * m + 2 * i) (f (lo + 2 * m + 2 * i))) n ≡ tabulate (λ k. g (m + k)) n =
+    tabulate-ext (λ i. offerOf (lo + 2 * m + 2 * i) (f (lo + 2 * m + 2 * i))) (λ k. g (m + k)) n
+    (λ k K. let p : lo + 2 * m + 2 * k ≡ lo + 2 * (m + k) = omega arith in ap (λ (q : ℕ). offerOf q (f q)) p) in
+    b ∙ ap₂ offeredAll a e ∙ all-append s (tabulate g m) (tabulate (λ k. g (m + k)) n) ∙ ap (offeredAll s) (tabulate-on g m n)
+
+-- the hold's blocks stay small
+pub all-fits : (s : Offered) (x : ℕ → Float) (p n : ℕ) → HoldFits (s .next) → p + 2 * n ≤ 2 ^ 50
+    → HoldFits (offeredAll s (tabulate (λ j. offerOf (p + 2 * j) (x j)) n) .next)
+unfolding offeredAll offeredNext tabulate
+all-fits s x p zero f h = f
+all-fits s x p (suc n) f h =
+    let g : ℕ → Offer = λ j. offerOf (p + 2 * j) (x j) in
+    let t : Offered = offeredAll s (tabulate g n) in
+    let a : HoldFits (t .next) = all-fits s x p n f (omega arith) in
+    let b : p + 2 * n < 2 ^ 50 = omega arith in
+    let d : HoldFits (offeredNext t (g n) .next) = hold-next (t .next) (record { 0 = p + 2 * n }) (candidateOf (x n)) b a in
+    subst (λ (r : Offered). HoldFits (r .next)) (all-append s (tabulate g n) (g n ∷ [])) d
+
+pub search-fits : (s : Offered) (f : ℕ → Float) (lo n : ℕ) → HoldFits (s .next) → lo + 2 * n ≤ 2 ^ 50 → HoldFits (offeredAll s (offersFrom f lo n) .next)
+unfolding offersFrom
+search-fits s f lo n h l = all-fits s (λ j. f (lo + 2 * j)) lo n h l
+
+-- what all offers come to is a search
+searched-on : (h : Hold) (os ps : List Offer) (s : Offered) → Searched h os s → Searched h (os ++ ps) (offeredAll s ps)
+unfolding offeredAll
+searched-on h os [] s w = rw (append-nil os) w
+searched-on h os (o ∷ ps) s w =
+    rw (append-assoc os (o ∷ []) ps) at (searched-on h (os ++ (o ∷ [])) ps (offeredNext s o) (searched-next h os o s w))
+
+pub all-searched : (h : Hold) (f : ℕ → Float) (lo n : ℕ) → Searched h (offersFrom f lo n) (offeredAll (record { next = h; release = NoRelease }) (offersFrom f lo n))
+unfolding offersFrom tabulate
+all-searched h f lo n =
+    searched-on h [] (offersFrom f lo n) (record { next = h; release = NoRelease }) (searched-none h f lo)
+
+-- tables that fit a block fit it with planes of the same lengths
+pub rows-same : {room n n′ refs carriers per at zr zr′ zi zi′ : ℕ} {offs : List ℕ} → RowsFit room n offs refs carriers per at zr zi
+    → n′ ≡ n → zr′ ≡ zr → zi′ ≡ zi → RowsFit room n′ offs refs carriers per at zr′ zi′
+rows-same f a b d = rw (a, b, d) f
+
+-- the front of an array of zeros, m of its n entries
+pub front-length : (n m : ℕ) (a : Float) → m ≤ n → length (take (m - 0) (replicate n a)) ≡ m
+front-length n m a h = let e = length-take (m - 0) (replicate n a) in let d = length-replicate n a in omega arith
+
+front-zeros : (n m : ℕ) → m ≤ n → Zeros (take (m - 0) (replicate n fzero)) (take (m - 0) (replicate n fzero))
+front-zeros n m h j J =
+    let l = front-length n m fzero h in
+    let e : getD (take (m - 0) (replicate n fzero)) j nan ≡ fzero =
+    getD-take (m - 0) (replicate n fzero) j nan (omega arith) ∙ getD-replicate n j fzero nan (omega arith) in
+    ap₂ cx e e
+
+pub fronts-room : (n m : ℕ) → m ≤ n
+    → BlockRoom (take (m - 0) (replicate n fzero)) (take (m - 0) (replicate n fzero)) (take (m - 0) (replicate n fzero)) (take (m - 0) (replicate n fzero))
+fronts-room n m h = record { ai-is = refl; br-is = refl; bi-is = refl; pilot-zeros = front-zeros n m h; data-zeros = front-zeros n m h }
+
+pub fronts-fit : {room markRefs cellRefs carriers base p n n′ zr zr′ zi zi′ : ℕ} {marks cells : List ℕ} {s : Offered}
+    → BlockFits room marks markRefs cells cellRefs carriers base p n zr zi s → n′ ≡ n → zr′ ≡ zr → zi′ ≡ zi
+    → BlockFits room marks markRefs cells cellRefs carriers base p n′ zr′ zi′ s
+fronts-fit f a b d = rw (a, b, d) f
+
+-- sums over the tables at a block of positions make the offers of the tables' chi
+module _ (memory : List Float) (marks : List ℕ) (markRefs : List Float) (cells : List ℕ) (cellRefs : List Float) (base p : ℕ) (ar ai br bi : List Float)
+    (h : base ≤ p) (l : length br ≡ length ar) where
+  pub block-offers : (n : Counts) → n ≡ countsOf (length marks) (length cells) → Dots memory marks markRefs (p - base) ar ai → Dots memory cells cellRefs (p - base) br bi
+      → offersBy n ar ai br bi p ≡ offersFrom (flatMetric memory marks markRefs cells cellRefs base) p (length ar)
+  unfolding offersFrom flatChi
+  block-offers n e a b =
+      tabulate-ext (λ j. offerOf (p + 2 * j) (chiFrom n (pget ar ai j) (pget br bi j)))
+      (λ j. offerOf (p + 2 * j) (flatMetric memory marks markRefs cells cellRefs base (p + 2 * j))) (length ar)
+      (λ j J.
+      let q : p - base + 2 * j ≡ p + 2 * j - base = omega arith in
+      let u : pget ar ai j ≡ dotAt memory marks markRefs (p + 2 * j - base) = a .sums j J ∙ ap (dotAt memory marks markRefs) q in
+      let v : pget br bi j ≡ dotAt memory cells cellRefs (p + 2 * j - base) = b .sums j (omega arith) ∙ ap (dotAt memory cells cellRefs) q in
+      ap (offerOf (p + 2 * j))
+      (ap (λ (k : Counts). chiFrom k (pget ar ai j) (pget br bi j)) e
+      ∙ ap₂ (chiFrom (countsOf (length marks) (length cells))) u v))

@@ -1,9 +1,10 @@
 -- Chi over flat tables of places and references. Definitions only.
-use Prim.Native.Nat.{ℕ, _+_, _-_, _*_, _^_, _≤_, _<_}
+use Prim.Native.Nat.{ℕ, _+_, _-_, _*_, _/_, _^_, _≤_, _<_}
 use mathlib.Core.List.{List}
 use lib.ListN.{length}
 use lib.Ieee.{Float, binary64}
 use lib.Ieee as Ieee
+use Rattle.complex.specs.declared.Complex.{Complex}
 use Rattle.complex.specs.Arithmetic.{normSqr}
 use Rattle.level.specs.declared.Layout.{Layout}
 use Rattle.level.specs.Rows.{IsLayout}
@@ -11,7 +12,8 @@ use Rattle.level.specs.Kept.{whole}
 use Rattle.dat.specs.Accepted.{Markers}
 use Rattle.chi.specs.declared.Sum.the-variants.{Pilot, Data}
 use Rattle.chi.specs.Table.{Tabled}
-use Rattle.chi.specs.Dot.{dotAt, DotFits}
+use Rattle.chi.specs.Dot.{dotAt}
+use Rattle.blocks.specs.Planes.{RowsFit}
 use Rattle.hold.specs.declared.Hold.{Hold}
 use Rattle.search.specs.declared.Counts.{Counts}
 use Rattle.search.specs.declared.Chi.{Chi}
@@ -21,6 +23,10 @@ use Rattle.search.specs.Fits.{HoldFits}
 -- how many marks and kept cells there are, as f64
 abbrev pub countsOf : ℕ → ℕ → Counts
 countsOf marks cells = record { marks = whole marks; cells = whole cells }
+
+-- chi from the pilot sum and the data sum: |a|² / marks + |b|² / cells
+abbrev pub chiFrom : Counts → Complex → Complex → Float
+chiFrom n a b = Ieee.add binary64 (Ieee.div binary64 (normSqr a) (n .marks)) (Ieee.div binary64 (normSqr b) (n .cells))
 
 -- chi and the pilot sum over tables of the marks and of the kept cells, `at` positions past the tracks' base
 unfoldable pub flatChi : List Float → List ℕ → List Float → List ℕ → List Float → Counts → ℕ → Chi
@@ -33,11 +39,14 @@ flatChi memory marks markRefs cells cellRefs n at =
 abbrev pub flatMetric : List Float → List ℕ → List Float → List ℕ → List Float → ℕ → ℕ → Float
 flatMetric memory marks markRefs cells cellRefs base p = flatChi memory marks markRefs cells cellRefs (countsOf (length marks) (length cells)) (p - base) .chi
 
--- a search over tables: at each of its n positions they are inside a memory of `room` f64
-pub record FlatFits (room : ℕ) (marks : List ℕ) (markRefs : ℕ) (cells : List ℕ) (cellRefs base lo n : ℕ) (h : Hold) : Type 0 where
+-- a search over tables of rows, one a carrier: at each block of its n positions they are inside a memory of `room` f64
+pub record FlatFits (room : ℕ) (marks : List ℕ) (markRefs : ℕ) (cells : List ℕ) (cellRefs carriers base lo n : ℕ)
+    (h : Hold) : Type 0 where
   pub begun : (i : ℕ) → i < n → base ≤ lo + 2 * i
-  pub marks-fit : (i : ℕ) → i < n → DotFits room marks markRefs (lo + 2 * i - base)
-  pub cells-fit : (i : ℕ) → i < n → DotFits room cells cellRefs (lo + 2 * i - base)
+  pub marks-fit : (i m : ℕ) → 0 < m → m ≤ 2048 → i + m ≤ n
+      → RowsFit room m marks markRefs carriers (length marks / carriers) (lo + 2 * i - base) 9248 9248
+  pub cells-fit : (i m : ℕ) → 0 < m → m ≤ 2048 → i + m ≤ n
+      → RowsFit room m cells cellRefs carriers (length cells / carriers) (lo + 2 * i - base) 9248 9248
   pub small : lo + 2 * n ≤ 2 ^ 50
   pub hold-fits : HoldFits h
 

@@ -3,7 +3,6 @@ use Prim.Native.Nat.{ℕ, _+_, _-_, _*_, _/_, _^_, _≤_, _<_}
 use mathlib.Core.Path.{_≡_, refl, sym, ap, ap₂, _∙_}
 use mathlib.Core.Bool.{Bool, true, false, _&&_, cond}
 use mathlib.Core.List.{List, [], _∷_, _++_, append-nil}
-use native.Mathlib.Numerals.{add-one}
 use native.Mathlib.Omega.{arith}
 use lib.ListN.{length, getD}
 use lib.Ieee.{Float}
@@ -36,10 +35,6 @@ use Rattle.search.specs.Search.{reach, searchCount, offerOf, offersFrom}
 use Rattle.search.specs.Fits.{latest, offeredNext, lastReleased, Searched, HeldBelow, HoldFits}
 
 -- ---- one offer more
-pub offers-next : (chi : ℕ → Float) (lo i : ℕ) → offersFrom chi lo (i + 1) ≡ offersFrom chi lo i ++ (offerOf (lo + 2 * i) (chi (lo + 2 * i)) ∷ [])
-unfolding offersFrom tabulate
-offers-next chi lo i = rw add-one refl
-
 -- the last release, when an offer more has released r
 last-next : (ds : List Detection) (r : Release) → lastReleased (ds ++ released r []) ≡ latest (lastReleased ds) r
 unfolding lastReleased released

@@ -1,6 +1,6 @@
 // Chi and the search over even positions (01, "Search and hold"; rx/psk.rs, `chi` and `step`).
 ghost use mathlib.Core.Path.{_≡_};
-ghost use Prim.Native.Nat.{_+_, _-_, _*_, _<_};
+ghost use Prim.Native.Nat.{_+_, _-_, _*_, _<_, _≤_, min};
 ghost use lib.ListN.{length};
 ghost use Rattle.chi.specs.declared.Sum.the-variants.{Pilot, Data};
 ghost use Rattle.chi.specs.Table.{TableRoom};
@@ -8,7 +8,8 @@ ghost use Rattle.chi.specs.Dot.{DotFits};
 ghost use Rattle.search.specs.Chi.{candidateOf};
 ghost use Rattle.search.specs.Search.{offerOf, offersFrom};
 ghost use Rattle.search.specs.Fits.{latest, offeredNext, offersIn, Searched, HoldFits, SearchFits};
-ghost use Rattle.search.specs.Flat.{countsOf, flatChi, flatMetric, FlatFits};
+ghost use Rattle.search.specs.Flat.{countsOf, chiFrom, flatChi, flatMetric, FlatFits};
+ghost use Rattle.search.specs.Block.{offeredAll, offersBy, SumsFit, BlockFits, BlockRoom};
 use chi::Sum;
 use complex::Complex;
 use hold::Candidate;
@@ -40,6 +41,13 @@ pub fn counts_of(marks: usize, cells: usize) -> Counts
     }
 }
 
+// Chi from the pilot sum a and the data sum b.
+fn chi_from(n: Counts, a: Complex, b: Complex) -> f64
+    ensures { λ r. ⌜ r ≡ chiFrom n a b ⌝ }
+{
+    complex::norm_sqr(a) / n.marks + complex::norm_sqr(b) / n.cells
+}
+
 // Chi over tables of the marks and of the kept cells, `at` positions past the tracks' base.
 pub fn chi_at(
     memory: &[f64],
@@ -56,7 +64,7 @@ pub fn chi_at(
     let pilot_sum = chi::dot(memory, marks, mark_refs, at);
     let data_sum = chi::dot(memory, cells, cell_refs, at);
     Chi {
-        chi: complex::norm_sqr(pilot_sum) / n.marks + complex::norm_sqr(data_sum) / n.cells,
+        chi: chi_from(n, pilot_sum, data_sum),
         pilot_sum,
     }
 }
@@ -97,40 +105,145 @@ fn offer_next(s: Offered, p: u64, x: f64) -> Offered
     }
 }
 
-// The search over tables that are built.
+// The search after offers at a block of even positions from p on, by the pilot sums and the data sums there.
+fn offer_block(
+    s: Offered,
+    p: u64,
+    n: Counts,
+    ar: &[f64],
+    ai: &[f64],
+    br: &[f64],
+    bi: &[f64],
+) -> Offered
+    requires { ⌜ SumsFit s p (length (now ar)) (length (now ai)) (length (now br)) (length (now bi)) ⌝ }
+    ensures { λ r. ⌜ r ≡ offeredAll s (offersBy n (now (ar .entry)) (now (ai .entry)) (now (br .entry)) (now (bi .entry)) p) ⌝ }
+{
+    let mut t = s;
+    let mut j = 0;
+    while j < ar.len() {
+        let x = chi_from(n, blocks::value(ar, ai, j), blocks::value(br, bi, j));
+        t = offer_next(t, p + 2 * j as u64, x);
+        j += 1;
+    }
+    t
+}
+
+// The search over a block of even positions from p on, by way of planes of zeros for its sums and room for a track.
+fn block_through(
+    memory: &[f64],
+    marks: &[usize],
+    mark_refs: &[f64],
+    cells: &[usize],
+    cell_refs: &[f64],
+    carriers: usize,
+    base: u64,
+    p: u64,
+    s: Offered,
+    ar: &mut [f64],
+    ai: &mut [f64],
+    br: &mut [f64],
+    bi: &mut [f64],
+    zr: &mut [f64],
+    zi: &mut [f64],
+) -> Offered
+    requires { ⌜ BlockFits (length (now memory)) (now marks) (length (now «mark_refs»)) (now cells) (length (now «cell_refs»)) carriers base p (length (now ar)) (length (now zr)) (length (now zi)) s
+        × BlockRoom (now ar) (now ai) (now br) (now bi) ⌝ }
+    ensures { λ r. ⌜ r ≡ offeredAll s (offersFrom (flatMetric (now (memory .entry)) (now (marks .entry)) (now («mark_refs» .entry)) (now (cells .entry)) (now («cell_refs» .entry)) base) p (length (now (ar .entry)))) ⌝ }
+{
+    let at = (p - base) as usize;
+    blocks::dots(ar, ai, memory, marks, mark_refs, carriers, at, zr, zi);
+    blocks::dots(br, bi, memory, cells, cell_refs, carriers, at, zr, zi);
+    offer_block(s, p, counts_of(marks.len(), cells.len()), ar, ai, br, bi)
+}
+
+// The search over a block of m even positions from p on. The first and the last of 450 symbols stand 16 x 449 even
+// positions apart: 9,248 hold them at every position of a block.
+fn search_block(
+    memory: &[f64],
+    marks: &[usize],
+    mark_refs: &[f64],
+    cells: &[usize],
+    cell_refs: &[f64],
+    carriers: usize,
+    base: u64,
+    p: u64,
+    m: usize,
+    s: Offered,
+) -> Offered
+    requires { ⌜ BlockFits (length (now memory)) (now marks) (length (now «mark_refs»)) (now cells) (length (now «cell_refs»)) carriers base p m 9248 9248 s × (m ≤ 2048) ⌝ }
+    ensures { λ r. ⌜ r ≡ offeredAll s (offersFrom (flatMetric (now (memory .entry)) (now (marks .entry)) (now («mark_refs» .entry)) (now (cells .entry)) (now («cell_refs» .entry)) base) p m) ⌝ }
+{
+    let mut ar = [0.0; 2048];
+    let mut ai = [0.0; 2048];
+    let mut br = [0.0; 2048];
+    let mut bi = [0.0; 2048];
+    let mut zr = [0.0; 9248];
+    let mut zi = [0.0; 9248];
+    block_through(
+        memory,
+        marks,
+        mark_refs,
+        cells,
+        cell_refs,
+        carriers,
+        base,
+        p,
+        s,
+        &mut ar[0..m],
+        &mut ai[0..m],
+        &mut br[0..m],
+        &mut bi[0..m],
+        &mut zr[0..9248],
+        &mut zi[0..9248],
+    )
+}
+
+// How many of the positions that are left the next block takes.
+fn block_length(left: usize) -> usize
+    ensures { λ r. ⌜ r ≡ min left 2048 ⌝ }
+{
+    if left < 2048 {
+        return left;
+    }
+    2048
+}
+
+// The search over tables that are built, block by block.
 fn search_tables(
     memory: &[f64],
     marks: &[usize],
     mark_refs: &[f64],
     cells: &[usize],
     cell_refs: &[f64],
+    carriers: usize,
     base: u64,
     lo: u64,
     count: usize,
     h: Hold,
 ) -> Offered
-    requires { ⌜ FlatFits (length (now memory)) (now marks) (length (now «mark_refs»)) (now cells) (length (now «cell_refs»)) base lo count h ⌝ }
+    requires { ⌜ FlatFits (length (now memory)) (now marks) (length (now «mark_refs»)) (now cells) (length (now «cell_refs»)) carriers base lo count h ⌝ }
     ensures { λ r. ⌜ Searched h (offersFrom (flatMetric (now (memory .entry)) (now (marks .entry)) (now («mark_refs» .entry)) (now (cells .entry)) (now («cell_refs» .entry)) base) lo count) r ⌝ }
 {
-    let n = counts_of(marks.len(), cells.len());
     let mut s = Offered {
         next: h,
         release: Release::NoRelease,
     };
     let mut i = 0;
     while i < count {
-        let p = lo + 2 * i as u64;
-        let x = chi_at(
+        let m = block_length(count - i);
+        s = search_block(
             memory,
             marks,
             mark_refs,
             cells,
             cell_refs,
-            n,
-            (p - base) as usize,
+            carriers,
+            base,
+            lo + 2 * i as u64,
+            m,
+            s,
         );
-        s = offer_next(s, p, x.chi);
-        i += 1;
+        i += m;
     }
     s
 }
@@ -163,6 +276,7 @@ fn search_through(
         mark_refs,
         cells,
         cell_refs,
+        l.nc,
         step.base.0,
         lo,
         count,

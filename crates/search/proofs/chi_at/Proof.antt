@@ -10,11 +10,8 @@ dot-requires c κs = search needs
 dot-requires-2 : tie.Need-dot-requires-2
 dot-requires-2 c κs = search needs
 
-norm-sqr-requires : tie.Need-norm-sqr-requires
-norm-sqr-requires c κs = search needs
-
-norm-sqr-requires-2 : tie.Need-norm-sqr-requires-2
-norm-sqr-requires-2 c κs = search needs
+chi-from-requires : tie.Need-chi-from-requires
+chi-from-requires c κs = search needs
 
 returns : tie.Need-returns
 unfolding flatChi
@@ -22,4 +19,4 @@ returns c = cc
 
 pub chi-at-spec : {M : Type 1} → statement M
 chi-at-spec =
-    tie.close (tie.spec dot-requires dot-requires-2 norm-sqr-requires norm-sqr-requires-2 returns)
+    tie.close (tie.spec dot-requires dot-requires-2 chi-from-requires returns)
