@@ -167,14 +167,6 @@ fn feed_all(
     r
 }
 
-fn fill(memory: &mut [f64], value: f64) {
-    let mut i = 0;
-    while i < memory.len() {
-        memory[i] = value;
-        i += 1;
-    }
-}
-
 // The samples fed, whether each feed was answered as it should be, and the detections.
 fn show(r: Progress, row: &[u64])
     requires { ⌜ r .logged ≤ length (now row) ⌝ }
@@ -205,7 +197,7 @@ pub fn cut(
     let OpenAnswer::Opened(opened) = answer else {
         return;
     };
-    fill(memory, value);
+    replay_inputs::fill(memory, value);
     let r = feed_all(rule, markers, phasors, book, opened, memory, signal, row);
     show(r, row);
 }

@@ -1,4 +1,4 @@
-// What a refusal has to leave as it was: a state as a row of numbers, one for each field, and a memory as a digest.
+// What a refusal has to leave as it was: a state as a row of numbers, one for each field.
 use hold::Block;
 use hold::Held;
 use rx::SearchPlace;
@@ -60,22 +60,4 @@ pub fn numbers_of(s: State) -> [u64; 17] {
         held_number(best),
         metric_bits(best),
     ]
-}
-
-// 31 h + b, modulo 2^64: the product by halves of 32 bits.
-fn mix(h: u64, b: u64) -> u64 {
-    let upper = h / 0x1_0000_0000 * 31 % 0x1_0000_0000 * 0x1_0000_0000;
-    let product = std::num::wrapping_add_u64(h % 0x1_0000_0000 * 31, upper);
-    std::num::wrapping_add_u64(product, b)
-}
-
-// One number for the bits of all numbers of a memory: since 31 is odd, a change of any one of them changes it.
-pub fn digest(memory: &[f64]) -> u64 {
-    let mut h = 0;
-    let mut i = 0;
-    while i < memory.len() {
-        h = mix(h, replay_inputs::bits_of(memory[i]));
-        i += 1;
-    }
-    h
 }

@@ -46,13 +46,13 @@ fn try_feed(
     samples: &[f64],
 ) -> State {
     let numbers = kept::numbers_of(s);
-    let digest = kept::digest(memory);
+    let digest = replay_inputs::digest(memory);
     let at = Position(number);
     let f = rx::feed(500, 4, markers, phasors, book, s, memory, at, samples);
     let state = f.state;
     let after = kept::numbers_of(state);
     let state_same = replay_inputs::same(&numbers, &after);
-    let memory_same = kept::digest(memory) == digest;
+    let memory_same = replay_inputs::digest(memory) == digest;
     let answer = f.answer;
     show_answer(answer, state_same, memory_same);
     state

@@ -29,6 +29,10 @@ module _ (l : Layout) where
   unfolding chosen levelOf layoutOf sizeIn
   entries-500-6 e = ap (sizeIn entries) (sym e)
 
+  pub one-row-500-6 : chosen 500 6 ≡ answered l → rowNumbers l 1 ≡ 2304
+  unfolding chosen levelOf layoutOf rowLength sizeIn
+  one-row-500-6 e = ap (sizeIn (λ m. rowNumbers m 1)) (sym e)
+
   pub two-rows-500-4 : chosen 500 4 ≡ answered l → rowNumbers l 2 ≡ 3180
   unfolding chosen levelOf layoutOf rowLength sizeIn
   two-rows-500-4 e = ap (sizeIn (λ m. rowNumbers m 2)) (sym e)

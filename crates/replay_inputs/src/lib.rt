@@ -206,6 +206,18 @@ pub fn signal(
     state
 }
 
+// The samples that rows of symbols give, with no noise.
+pub fn clean(l: Layout, rows: &[f64], frames: usize, book: &[f64], lead: usize, out: &mut [f64])
+    requires { ⌜ IsLayout l × (frames ≤ 4) × (length (now rows) ≡ rowNumbers l frames) × (length (now book) ≡ 6000) × (lead ≤ 2 ^ 32) × (length (now out) ≤ 2 ^ 32) ⌝ }
+{
+    let mut n = 0;
+    while n < out.len() / 2 {
+        let z = sample(l, rows, frames, book, lead, n);
+        complex::put(out, n, z);
+        n += 1;
+    }
+}
+
 // What sending drawn bits comes to, and the generator's state after the draws.
 pub struct Sending {
     pub sent: Sent,
@@ -333,4 +345,32 @@ pub fn same(a: &[u64], b: &[u64]) -> bool {
         i += 1;
     }
     true
+}
+
+pub fn fill(memory: &mut [f64], value: f64) {
+    let mut i = 0;
+    while i < memory.len() {
+        memory[i] = value;
+        i += 1;
+    }
+}
+
+// 31 h + b, modulo 2^64, the product by halves of 32 bits; then the halves change places, so that two signs don't cancel.
+fn mix(h: u64, b: u64) -> u64 {
+    let upper = h / 0x1_0000_0000 * 31 % 0x1_0000_0000 * 0x1_0000_0000;
+    let product = std::num::wrapping_add_u64(h % 0x1_0000_0000 * 31, upper);
+    let sum = std::num::wrapping_add_u64(product, b);
+    let lower = sum % 0x1_0000_0000 * 0x1_0000_0000;
+    std::num::wrapping_add_u64(lower, sum / 0x1_0000_0000)
+}
+
+// One number for the bits of all numbers of a memory: since 31 is odd, a change of any one of them changes it.
+pub fn digest(memory: &[f64]) -> u64 {
+    let mut h = 0;
+    let mut i = 0;
+    while i < memory.len() {
+        h = mix(h, bits_of(memory[i]));
+        i += 1;
+    }
+    h
 }

@@ -1,10 +1,10 @@
--- `refusal_state::kept::digest` is safe: every place is below the length. Assumes nothing.
+-- `replay_inputs::digest` is safe: every place is below the length. Assumes nothing.
 use Prim.Native.Nat.{_-_, _≤_}
 use native.Mathlib.Omega.{arith}
 use borrow.Author.Needs.{needs}
 use lib.ListN.{length}
-use Rattle.refusal_state.proofs.kept.digest.Statement.{statement}
-use Rattle.refusal_state.proofs.kept.digest.Tie as tie
+use Rattle.replay_inputs.proofs.digest.Statement.{statement}
+use Rattle.replay_inputs.proofs.digest.Tie as tie
 
 abbrev Inv-loop : tie.InvT-loop
 Inv-loop memory h₀ i₀ h i = i ≤ length memory

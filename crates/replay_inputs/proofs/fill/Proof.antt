@@ -1,11 +1,11 @@
--- `feed_cases::feeds::fill` is safe: every place is below the length, which stays. Assumes nothing.
+-- `replay_inputs::fill` is safe: every place is below the length, which stays. Assumes nothing.
 use Prim.Native.Nat.{_-_, _≤_}
 use mathlib.Core.Path.{_≡_}
 use native.Mathlib.Omega.{arith}
 use borrow.Author.Needs.{needs}
 use lib.ListN.{length}
-use Rattle.feed_cases.proofs.feeds.fill.Statement.{statement}
-use Rattle.feed_cases.proofs.feeds.fill.Tie as tie
+use Rattle.replay_inputs.proofs.fill.Statement.{statement}
+use Rattle.replay_inputs.proofs.fill.Tie as tie
 
 abbrev Inv-loop : tie.InvT-loop
 Inv-loop memory₀ value i₀ memory i = (i ≤ length memory₀) × (length memory ≡ length memory₀)
