@@ -1,3 +1,4 @@
--- What the bit patterns of an `f64` say, which `root_bits` and `sqrt` cite, and the arithmetic of `longer_root`.
+-- What the bit patterns of an `f64` say, which `root_bits` and `sqrt` cite, the arithmetic of `longer_root`, and that the root is the nearest value.
 mod Patterns
 mod Division
+mod NearestRoot

@@ -1,4 +1,5 @@
 pub mod Root
+pub mod NearestRoot
 pub mod Unit
 pub mod Examples
 pub mod Squares

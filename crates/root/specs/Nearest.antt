@@ -1,11 +1,11 @@
--- "correctly rounded" (01): of all values of the format √x as defined is the one nearest to the root of x, and no other is as near (`nearest`).
--- So a value whose square is at most x is at most √x (`root-no-less`), one whose square is at least x is at least √x (`root-no-more`), and √ keeps the order (`sqrt-mono`).
--- Everything is said in units of 2 ^ -1074, the least value above zero, of which squares are compared as whole numbers. Assumes nothing.
+-- Of all values of the format √x as defined is the one nearest to the root of x: the root lies on √x's side of the number half way to any
+-- other (`half-way`), so a value whose square is at most x is at most √x (`root-no-less`). In units of 2 ^ -1074, the least value above zero,
+-- of which squares are compared as whole numbers. Assumes nothing.
 use mathlib.Core.Path.{_≡_, refl, sym, ap, _∙_, subst}
 use mathlib.Core.Logic.{_⊎_, inl, inr, ⊎-elim}
 use native.Mathlib.Decide.{decLe}
 use Prim.Native.Nat.{ℕ, zero, suc, _+_, _-_, _*_, _/_, _%_, _^_, _≤_, _<_}
-use native.Mathlib.Nat.{le-trans, le-add-right, le-of-eq, le-of-lt, le-of-suc-le-suc, lt-of-lt-of-le, lt-of-le-of-lt, lt-of-not-le, not-le-of-lt, add-comm, mul-comm, mul-assoc, mul-left-comm, pow-succ', add-mul, mul-le-mul-left, mul-le-mul-right, le-of-mul-le-mul-right, lt-of-mul-lt-mul-right, eq-of-mul-eq-mul-right, mul-mul-mul-comm, two-mul, eq-or-lt-of-le}
+use native.Mathlib.Nat.{le-trans, le-add-right, le-of-eq, le-of-lt, le-of-suc-le-suc, lt-of-lt-of-le, lt-of-le-of-lt, lt-of-not-le, not-le-of-lt, mul-comm, mul-assoc, mul-left-comm, pow-succ', add-mul, mul-le-mul-left, mul-le-mul-right, le-of-mul-le-mul-right, lt-of-mul-lt-mul-right, eq-of-mul-eq-mul-right, mul-mul-mul-comm, two-mul, eq-or-lt-of-le}
 use native.Mathlib.Numerals.{add-one}
 use native.Mathlib.Omega.{arith}
 use mathlib.Core.Bool.{false}
@@ -16,12 +16,12 @@ use lib.Ieee.Fits.{down-pos}
 use lib.Ieee.Digits.{back}
 use lib.Ieee.Exact.{HasValue}
 use lib.Ieee.Order.{le-of-values}
-use lib.Ieee.Positive.{positive, values-of-le}
-use Rattle.laws.specs.Plain.{plain, positive-plain}
+use lib.Ieee.Positive.{positive}
+use Rattle.laws.specs.Plain.{plain}
 use Rattle.laws.specs.Rounding.{in-units}
 use Rattle.root.specs.Root.{sqrtOf}
-use Rattle.root.specs.Squares.{double-square, next-square, square-mono, square-strict, root-le-root}
-use Rattle.root.specs.Rooted.{Rooted, rooted, sqrt-positive, sqrt-positive-fits}
+use Rattle.root.specs.Squares.{double-square, next-square, square-mono, root-le-root}
+use Rattle.root.specs.Rooted.{Rooted, rooted}
 
 -- two counts of the units of one value are equal
 same-units : (x : Float) (a b : ℕ) → HasValue x false a (2 ^ 1074) → HasValue x false b (2 ^ 1074) → a ≡ b
@@ -155,10 +155,10 @@ below-strict x R u h l =
 
 -- x is n units, √x is y, and z is u. The number half way between √x and z is (y + u) / 2. For a z above √x the root of x is below that number, and for a z below √x it is above it.
 -- z is any finite value of the format with a clear sign; a negative one lies farther off than 0.
-pub nearest : (x z : Float) (n y u : ℕ) → T (fits binary64 x) → T (positive x) → T (fits binary64 z) → T (plain z)
+pub half-way : (x z : Float) (n y u : ℕ) → T (fits binary64 x) → T (positive x) → T (fits binary64 z) → T (plain z)
     → HasValue x false n (2 ^ 1074) → HasValue (sqrtOf x) false y (2 ^ 1074) → HasValue z false u (2 ^ 1074)
     → (y < u → 4 * (n * 2 ^ 1074) < (y + u) * (y + u)) × (u < y → (y + u) * (y + u) < 4 * (n * 2 ^ 1074))
-nearest x z n y u F p G q vx vy vz =
+half-way x z n y u F p G q vx vy vz =
     let R = rooted x F p in
     let Z = in-units binary64 z G q in
     let U = Z .m * 2 ^ Z .j in
@@ -172,45 +172,15 @@ nearest x z n y u F p G q vx vy vz =
       λ h. below-strict x R U h (below-all w (R .r) (R .k) (Z .m) (Z .j) (R .full) (Z .few) (R .from) (R .least) h),
     )))
 
--- ---- a value whose square is at most x is at most √x, and one whose square is at least x is at least √x
+-- ---- a value whose square is at most x is at most √x
 sum-under : (y u w : ℕ) → y < u → u * u ≤ w → 4 * w < (y + u) * (y + u) → ⊥
 sum-under y u w h s l = not-le-of-lt l (le-trans (square-mono (y + u) (2 * u) (omega arith)) (le-trans (le-of-eq (double-square u)) (mul-le-mul-left 4 s)))
-
-sum-over : (y u w : ℕ) → u < y → w ≤ u * u → (y + u) * (y + u) < 4 * w → ⊥
-sum-over y u w h s l =
-    not-le-of-lt (square-strict (2 * u) (y + u) (omega arith)) (le-trans (le-of-lt l) (le-trans (mul-le-mul-left 4 s) (le-of-eq (sym (double-square u)))))
 
 pub root-no-less : (x z : Float) (n u : ℕ) → T (fits binary64 x) → T (positive x) → T (fits binary64 z) → T (plain z)
     → HasValue x false n (2 ^ 1074) → HasValue z false u (2 ^ 1074) → u * u ≤ n * 2 ^ 1074 → T (le z (sqrtOf x))
 root-no-less x z n u F p G q vx vz h =
     let R = rooted x F p in
     let y = R .r * 2 ^ R .k in
-    let N = nearest x z n y u F p G q vx (R .root) vz in
+    let N = half-way x z n y u F p G q vx (R .root) vz in
     let l : u ≤ y = le-of-suc-le-suc (lt-of-not-le (λ (g : suc y ≤ u). sum-under y u (n * 2 ^ 1074) g h (N .0 g))) in
     le-of-values z (sqrtOf x) u (2 ^ 1074) y (2 ^ 1074) (pow-pos 1074) (pow-pos 1074) vz (R .root) (mul-le-mul-right (2 ^ 1074) l)
-
-pub root-no-more : (x z : Float) (n u : ℕ) → T (fits binary64 x) → T (positive x) → T (fits binary64 z) → T (plain z)
-    → HasValue x false n (2 ^ 1074) → HasValue z false u (2 ^ 1074) → n * 2 ^ 1074 ≤ u * u → T (le (sqrtOf x) z)
-root-no-more x z n u F p G q vx vz h =
-    let R = rooted x F p in
-    let y = R .r * 2 ^ R .k in
-    let N = nearest x z n y u F p G q vx (R .root) vz in
-    let l : y ≤ u = le-of-suc-le-suc (lt-of-not-le (λ (g : suc u ≤ y). sum-over y u (n * 2 ^ 1074) g h (N .1 g))) in
-    le-of-values (sqrtOf x) z y (2 ^ 1074) u (2 ^ 1074) (pow-pos 1074) (pow-pos 1074) (R .root) vz (mul-le-mul-right (2 ^ 1074) l)
-
--- ---- √ keeps the order
-pub sqrt-mono : (x x′ : Float) → T (fits binary64 x) → T (positive x) → T (fits binary64 x′) → T (positive x′) → T (le x x′) → T (le (sqrtOf x) (sqrtOf x′))
-sqrt-mono x x′ F p F′ p′ h =
-    let R = rooted x F p in
-    let S = rooted x′ F′ p′ in
-    let y = R .r * 2 ^ R .k in
-    let y′ = S .r * 2 ^ S .k in
-    let a = R .m * 2 ^ R .j in
-    let a′ = S .m * 2 ^ S .j in
-    let A = nearest x (sqrtOf x′) a y y′ F p (sqrt-positive-fits x′ F′ p′) (positive-plain (sqrtOf x′) (sqrt-positive x′ F′ p′)) (R .value) (R .root) (S .root) in
-    let B = nearest x′ (sqrtOf x) a′ y′ y F′ p′ (sqrt-positive-fits x F p) (positive-plain (sqrtOf x) (sqrt-positive x F p)) (S .value) (S .root) (R .root) in
-    let n : a ≤ a′ = le-of-mul-le-mul-right (values-of-le x x′ a (2 ^ 1074) a′ (2 ^ 1074) p p′ (R .value) (S .value) h) (pow-pos 1074) in
-    let l : y ≤ y′ =
-    le-of-suc-le-suc (lt-of-not-le (λ (g : suc y′ ≤ y).
-    not-le-of-lt (B .0 g) (le-trans (le-of-eq (ap (λ (a : ℕ). a * a) (add-comm y′ y))) (le-trans (le-of-lt (A .1 g)) (mul-le-mul-left 4 (mul-le-mul-right (2 ^ 1074) n)))))) in
-    le-of-values (sqrtOf x) (sqrtOf x′) y (2 ^ 1074) y′ (2 ^ 1074) (pow-pos 1074) (pow-pos 1074) (R .root) (S .root) (mul-le-mul-right (2 ^ 1074) l)

@@ -18,7 +18,7 @@ wholeRoot n = rootIn (size n) n
 
 -- The value nearest to √w units, a unit being 2 ^ -1074, the least value above zero. As in `round`, the whole part of the root has k digits more than
 -- the 53 that an f64 keeps, and q is those 53. The result is q * 2 ^ k units or (q + 1) * 2 ^ k: the second where √w is no less than
--- the number half way, (2 * q + 1) * 2 ^ k / 2, which is said of the squares. (√w is never that number: `nearest` is strict.)
+-- the number half way, (2 * q + 1) * 2 ^ k / 2, which is said of the squares. (√w is never that number: `Farther` is strict.)
 unfoldable pub rootUnits : ℕ → Float
 unfolding wholeRoot units size
 rootUnits w =
