@@ -4,3 +4,4 @@ pub mod Counts
 pub mod Accepted
 pub mod Select
 pub mod Flags
+pub mod AcceptedCounts

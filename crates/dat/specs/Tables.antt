@@ -1,5 +1,6 @@
 -- The marker table and the phasors (01, "Marks and cells"; dat.rs), and conditions 3 to 7, each a Bool of what is lent. Definitions only.
 use Prim.Native.Nat.{ℕ, _+_, _-_, _*_}
+use mathlib.Core.Path.{_≡_}
 use mathlib.Core.Bool.{Bool, _||_, not, cond}
 use mathlib.Core.List.{List, [], _∷_}
 use lib.Dec.{ltb, eqb}
@@ -8,6 +9,7 @@ use lib.Ieee.{Float, binary64, ofBits}
 use lib.Ieee.Scale.{finite}
 use Rattle.refusal.specs.declared.Refusal.the-variants.{MarkerLength, MarkerValue, MarkerFlag, PhasorCount, PhasorSize}
 use Rattle.refusal.specs.declared.Fault.{Fault}
+use Rattle.refusal.specs.declared.Fault.the-variants.{Clear}
 use Rattle.refusal.specs.Outcome.{firstFault, orElse}
 use Rattle.refusal.specs.Any.{any}
 use Rattle.complex.specs.declared.Complex.{Complex}
@@ -90,3 +92,15 @@ phasorFault l phasors = firstFault ((PhasorCount, wrongCount l phasors) ∷ (Pha
 unfoldable pub tableFault : Layout → List ℕ → List Float → Fault
 unfolding markerFault phasorFault
 tableFault l table phasors = orElse (markerFault l table) (phasorFault l phasors)
+
+-- an accepted marker table: none of rows 3 to 5 is met
+abbrev pub MarkersAccepted : Layout → List ℕ → Type 0
+MarkersAccepted l table = markerFault l table ≡ Clear
+
+-- accepted phasors: neither of rows 6 and 7 is met
+abbrev pub PhasorsAccepted : Layout → List Float → Type 0
+PhasorsAccepted l phasors = phasorFault l phasors ≡ Clear
+
+-- accepted tables: none of rows 3 to 7 is met
+abbrev pub TablesAccepted : Layout → List ℕ → List Float → Type 0
+TablesAccepted l table phasors = tableFault l table phasors ≡ Clear
