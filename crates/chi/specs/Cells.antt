@@ -12,7 +12,8 @@ use Rattle.level.specs.Layout.{stagger}
 use Rattle.level.specs.Lengths.{cells, memoryLength}
 use Rattle.level.specs.Rows.{IsLayout}
 use Rattle.level.specs.Sized.{sized, stagger-within}
-use Rattle.level.specs.Kept.{keptCells, kept-are}
+use Rattle.level.specs.Kept.{keptCells}
+use Rattle.level.specs.KeptLaws.{kept-are}
 use Rattle.dat.specs.Tables.{marked}
 use Rattle.dat.specs.Cells.{symbolsWhere, Cell, cellAt, byCarrier, marksOf, cellsOf, thin}
 use Rattle.dat.specs.Counts.{marks-count, cells-count, byCarrier-count}

@@ -6,4 +6,5 @@ pub mod Tested
 pub mod Rows
 pub mod Sized
 pub mod Kept
+pub mod KeptLaws
 pub mod Frames

@@ -10,7 +10,8 @@ use lib.Ieee.{Float, fin, binary64, mul, lt, toUnsigned}
 use Rattle.level.specs.declared.Layout.{Layout}
 use Rattle.level.specs.Lengths.{cells}
 use Rattle.level.specs.Rows.{IsLayout}
-use Rattle.level.specs.Kept.{whole, share, part, keptCells, part-fits}
+use Rattle.level.specs.Kept.{whole, share, part, keptCells}
+use Rattle.level.specs.KeptLaws.{part-fits}
 use Rattle.level.proofs.kept_cells.Statement.{statement}
 use Rattle.level.proofs.kept_cells.Tie as tie
 
