@@ -1,11 +1,20 @@
 -- Lengths and counts that a layout fixes (01, "Beside the chain" and "Where each fault is met"). Definitions only.
 use Prim.Native.Nat.{ℕ, _+_, _-_, _*_}
+use mathlib.Core.List.{List, []}
+use lib.ListN.{getD}
+use Rattle.refusal.specs.Outcome.{Outcome, refused, answered}
 use Rattle.level.specs.declared.Layout.{Layout}
+use Rattle.level.specs.Level.{Level, levelOf}
 use Rattle.level.specs.Layout.{stagger}
 
--- the Hz of carrier c
+-- the carriers of a row, as hf/level.rs lists them
+abbrev pub carriersOf : Outcome Level → List ℕ
+carriersOf (refused k) = []
+carriersOf (answered m) = m .carriers
+
+-- the Hz of carrier c: entry c of the list in the layout's row
 unfoldable pub carrierHz : Layout → ℕ → ℕ
-carrierHz l c = l .«first_hz» + c * l .«spacing_hz»
+carrierHz l c = getD (carriersOf (levelOf (l .bandwidth) (l .rec))) c 0
 
 -- "Every other symbol from 1 to nsym − 1 is a data cell": the cells of a carrier, spf − 2 − markers
 unfoldable pub cells : Layout → ℕ

@@ -70,21 +70,19 @@ sized l i =
       memory-most = at-most l i memoryLength (λ x. 1378560) tt;
     }
 
--- the carriers that a row writes out are first_hz + c × spacing_hz
-isSpaced : Level → ℕ → Bool
-isSpaced m c = eqb (getD (m .carriers) c 0) (carrierHz (layoutOf m) c)
+-- the carriers that a row lists are first_hz + c × spacing_hz
+isSpaced : Layout → ℕ → Bool
+isSpaced l c = eqb (carrierHz l c) (l .«first_hz» + c * l .«spacing_hz»)
 
-pub carriers-even : (hz rec : ℕ) (m : Level) → levelOf hz rec ≡ answered m → (c : ℕ) → c < carrierCount m
-    → getD (m .carriers) c 0 ≡ carrierHz (layoutOf m) c
-unfolding layoutOf carrierHz isSpaced
-carriers-even hz rec m e c h =
-    eqb→eq _ _ (below-at (isSpaced m) (carrierCount m) (row-rule hz rec m (λ x. below (isSpaced x) (carrierCount x)) tt e) c h)
+pub carriers-even : (l : Layout) → IsLayout l → (c : ℕ) → c < l .nc → carrierHz l c ≡ l .«first_hz» + c * l .«spacing_hz»
+unfolding layoutOf carrierHz levelOf isSpaced
+carriers-even l i c h = eqb→eq _ _ (below-at (isSpaced l) (l .nc) (layout-rule l i (λ x. below (isSpaced x) (x .nc)) tt) c h)
 
 inBand : Layout → ℕ → Bool
 inBand l c = leb (carrierHz l c) 2760
 
 pub carrier-most : (l : Layout) → IsLayout l → (c : ℕ) → c < l .nc → carrierHz l c ≤ 2760
-unfolding layoutOf carrierHz inBand
+unfolding layoutOf carrierHz levelOf inBand
 carrier-most l i c h = leb→le _ _ (below-at (inBand l) (l .nc) (layout-rule l i (λ x. below (inBand x) (x .nc)) tt) c h)
 
 -- no carrier's stagger is above the greatest
