@@ -1,40 +1,13 @@
--- "each reads alike from both ends of its pulse" (01, "Layouts"): one test over the table, and its rule at each tap.
-use Prim.Native.Nat.{ℕ, _+_, _-_, _<_}
-use mathlib.Core.Path.{_≡_, ap, _∙_, sym}
-use mathlib.Core.Bool.{Bool}
-use lib.Dec.{T, eqb, eqb→eq}
-use lib.ListN.{getD, List·getD-map}
-use lib.Ieee.{binary64, ofBits}
-use Rattle.level.specs.Level.{Pulse, rc, rrc1, rrc2}
+-- The table of taps is as long as 01 says, and its pulses read alike from both ends (01, "Layouts"). Definitions only.
+use Prim.Native.Nat.{ℕ, _-_, _<_}
+use mathlib.Core.Path.{_≡_}
+use lib.ListN.{length}
+use Rattle.level.specs.Level.{Pulse}
 use Rattle.level.specs.Layout.{tapCount}
-use Rattle.level.specs.Tested.{below, below-at}
-use Rattle.taps.specs.Taps.{tapBits, tapStart, tap, receiverTap}
+use Rattle.taps.specs.Taps.{tapBits, tap}
 
--- tap j by its pattern; past the table a pattern of NaN, as a read there gives
-bits : Pulse → ℕ → ℕ
-bits p j = getD tapBits (tapStart p + j) 9221120237041090560
-
-tap-bits : (p : Pulse) (j : ℕ) → tap p j ≡ ofBits binary64 (bits p j)
-unfolding tap bits ofBits
-tap-bits p j = List·getD-map (ofBits binary64) tapBits (tapStart p + j) 9221120237041090560
-
-alike : Pulse → ℕ → Bool
-alike p j = eqb (bits p j) (bits p (tapCount p - 1 - j))
-
-tested : (p : Pulse) → T (below (alike p) (tapCount p))
-unfolding bits alike
-tested rc = tt
-tested rrc1 = tt
-tested rrc2 = tt
-
-pub mirror : (p : Pulse) (j : ℕ) → j < tapCount p → tap p j ≡ tap p (tapCount p - 1 - j)
-unfolding alike
-mirror p j h =
-    tap-bits p j
-    ∙ ap (ofBits binary64) (eqb→eq _ _ (below-at (alike p) (tapCount p) (tested p) j h))
-    ∙ sym (tap-bits p (tapCount p - 1 - j))
-
--- the same of the receiver's
-pub receiver-mirror : (p : Pulse) (j : ℕ) → j < tapCount p → receiverTap p j ≡ receiverTap p (tapCount p - 1 - j)
-unfolding receiverTap
-receiver-mirror p j h = rw (mirror p j h)
+pub record TapTable : Type 0 where
+  -- "a constant table of 227 numbers"
+  pub length-is : length tapBits ≡ 227
+  -- "each reads alike from both ends of its pulse"
+  pub mirror : (p : Pulse) (j : ℕ) → j < tapCount p → tap p j ≡ tap p (tapCount p - 1 - j)

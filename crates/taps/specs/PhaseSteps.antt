@@ -1,31 +1,30 @@
--- "phase steps .. printed once as constants" (01, "Beside the chain"). Definitions, and that no carrier lacks its step.
+-- "phase steps and the 32 taps of `interp16_taps` printed once as constants" (01, "Beside the chain"): the steps.
+-- Definitions only.
 use Prim.Native.Nat.{ℕ, _<_}
-use mathlib.Core.Bool.{Bool, cond}
+use mathlib.Core.Bool.{cond}
 use mathlib.Core.List.{List, [], _∷_}
-use lib.Dec.{eqb, ltb, ltb→lt}
+use lib.Dec.{eqb}
 use lib.Ieee.{Float, binary32, ofBits}
 use Rattle.level.specs.declared.Layout.{Layout}
-use Rattle.level.specs.Layout.{layoutOf}
 use Rattle.level.specs.Lengths.{carrierHz}
-use Rattle.level.specs.Tested.{below, below-at}
-use Rattle.level.specs.Rows.{IsLayout, layout-rule}
+use Rattle.level.specs.Rows.{IsLayout}
 
 -- a carrier's Hz, and 2π × Hz / 48000 as `nco_phase` of hf/psk.rs rounds it, by its binary32 pattern
 abbrev pub phaseSteps : List (ℕ × ℕ)
 phaseSteps =
-    (240, 1023454717) ∷ (375, 1028198363) ∷ (380, 1028374053) ∷ (450, 1030833722) ∷ (510, 1032370396) ∷
-    (555, 1033161004) ∷ (600, 1033951612) ∷ (625, 1034390838) ∷ (660, 1035005755) ∷ (700, 1035708518) ∷
-    (702, 1035743656) ∷ (750, 1036586971) ∷ (765, 1036850507) ∷ (870, 1038695258) ∷ (875, 1038783103) ∷
-    (900, 1039222330) ∷ (930, 1039749401) ∷ (975, 1040363701) ∷ (1020, 1040759004) ∷ (1080, 1041286076) ∷
-    (1125, 1041681380) ∷ (1158, 1041971269) ∷ (1170, 1042076684) ∷ (1185, 1042208452) ∷ (1250, 1042779446) ∷
-    (1290, 1043130827) ∷ (1320, 1043394363) ∷ (1340, 1043570054) ∷ (1350, 1043657899) ∷ (1375, 1043877512) ∷
-    (1386, 1043974142) ∷ (1395, 1044053203) ∷ (1500, 1044975579) ∷ (1605, 1045897954) ∷ (1614, 1045977015) ∷
-    (1625, 1046073645) ∷ (1650, 1046293258) ∷ (1660, 1046381103) ∷ (1680, 1046556794) ∷ (1710, 1046820330) ∷
-    (1750, 1047171711) ∷ (1815, 1047742706) ∷ (1830, 1047874473) ∷ (1842, 1047979888) ∷ (1875, 1048269777) ∷
-    (1920, 1048620541) ∷ (1980, 1048884076) ∷ (2025, 1049081728) ∷ (2070, 1049279380) ∷ (2100, 1049411148) ∷
-    (2125, 1049520955) ∷ (2130, 1049542916) ∷ (2235, 1050004104) ∷ (2250, 1050069988) ∷ (2298, 1050280817) ∷
-    (2300, 1050289601) ∷ (2340, 1050465292) ∷ (2375, 1050619021) ∷ (2400, 1050728828) ∷ (2445, 1050926480) ∷
-    (2490, 1051124132) ∷ (2550, 1051387667) ∷ (2620, 1051695126) ∷ (2625, 1051717087) ∷ (2760, 1052310043) ∷
+    (240, 0x3d00_adfd) ∷ (375, 0x3d49_0fdb) ∷ (380, 0x3d4b_be25) ∷ (450, 0x3d71_463a) ∷ (510, 0x3d88_b8dc) ∷
+    (555, 0x3d94_c92c) ∷ (600, 0x3da0_d97c) ∷ (625, 0x3da7_8d36) ∷ (660, 0x3db0_ef3b) ∷ (700, 0x3dbb_a866) ∷
+    (702, 0x3dbc_31a8) ∷ (750, 0x3dc9_0fdb) ∷ (765, 0x3dcd_154b) ∷ (870, 0x3de9_3b5a) ∷ (875, 0x3dea_927f) ∷
+    (900, 0x3df1_463a) ∷ (930, 0x3df9_5119) ∷ (975, 0x3e02_b0b5) ∷ (1020, 0x3e08_b8dc) ∷ (1080, 0x3e10_c3bc) ∷
+    (1125, 0x3e16_cbe4) ∷ (1158, 0x3e1b_3845) ∷ (1170, 0x3e1c_d40c) ∷ (1185, 0x3e1e_d6c4) ∷ (1250, 0x3e27_8d36) ∷
+    (1290, 0x3e2c_e9cb) ∷ (1320, 0x3e30_ef3b) ∷ (1340, 0x3e33_9d86) ∷ (1350, 0x3e34_f4ab) ∷ (1375, 0x3e38_4e88) ∷
+    (1386, 0x3e39_c7fe) ∷ (1395, 0x3e3a_fcd3) ∷ (1500, 0x3e49_0fdb) ∷ (1605, 0x3e57_22e2) ∷ (1614, 0x3e58_57b7) ∷
+    (1625, 0x3e59_d12d) ∷ (1650, 0x3e5d_2b0a) ∷ (1660, 0x3e5e_822f) ∷ (1680, 0x3e61_307a) ∷ (1710, 0x3e65_35ea) ∷
+    (1750, 0x3e6a_927f) ∷ (1815, 0x3e73_48f2) ∷ (1830, 0x3e75_4ba9) ∷ (1842, 0x3e76_e770) ∷ (1875, 0x3e7b_53d1) ∷
+    (1920, 0x3e80_adfd) ∷ (1980, 0x3e84_b36c) ∷ (2025, 0x3e87_b780) ∷ (2070, 0x3e8a_bb94) ∷ (2100, 0x3e8c_be4c) ∷
+    (2125, 0x3e8e_6b3b) ∷ (2130, 0x3e8e_c104) ∷ (2235, 0x3e95_ca88) ∷ (2250, 0x3e96_cbe4) ∷ (2298, 0x3e9a_0371) ∷
+    (2300, 0x3e9a_25c1) ∷ (2340, 0x3e9c_d40c) ∷ (2375, 0x3e9f_2c8d) ∷ (2400, 0x3ea0_d97c) ∷ (2445, 0x3ea3_dd90) ∷
+    (2490, 0x3ea6_e1a4) ∷ (2550, 0x3eaa_e713) ∷ (2620, 0x3eaf_9816) ∷ (2625, 0x3eaf_eddf) ∷ (2760, 0x3eb8_fa1b) ∷
     []
 
 -- the pattern that stands with a Hz; 0 where none does
@@ -39,12 +38,8 @@ phaseStep hz = ofBits binary32 (stepBits hz phaseSteps)
 
 -- "f32 TAU"
 abbrev pub tau : Float
-tau = ofBits binary32 1086918619
+tau = ofBits binary32 0x40c9_0fdb
 
-steps : Layout → ℕ → Bool
-steps l c = ltb 0 (stepBits (carrierHz l c) phaseSteps)
-
--- each carrier of each layout stands in the table
-pub carrier-steps : (l : Layout) → IsLayout l → (c : ℕ) → c < l .nc → 0 < stepBits (carrierHz l c) phaseSteps
-unfolding layoutOf carrierHz stepBits steps
-carrier-steps l i c h = ltb→lt _ _ (below-at (steps l) (l .nc) (layout-rule l i (λ x. below (steps x) (x .nc)) tt) c h)
+-- no carrier of a layout lacks its step
+unfoldable pub CarrierSteps : Type 0
+CarrierSteps = (l : Layout) → IsLayout l → (c : ℕ) → c < l .nc → 0 < stepBits (carrierHz l c) phaseSteps
