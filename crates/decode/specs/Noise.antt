@@ -9,7 +9,7 @@ use Rattle.laws.specs.Maximum.{maxf}
 use Rattle.level.specs.declared.Layout.{Layout}
 use Rattle.level.specs.Kept.{whole}
 use Rattle.dat.specs.Cells.{cellAt}
-use Rattle.demap.specs.SoftLaws.{milli}
+use Rattle.demap.specs.SignLaw.{milli}
 use Rattle.eq.specs.Noise.{deviationOf}
 use Rattle.decode.specs.Steps.{markCells, stepPlace, divided}
 

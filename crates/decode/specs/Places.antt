@@ -27,7 +27,7 @@ use Rattle.dat.specs.Cells.{Cell, cellAt, byCarrier}
 use Rattle.dat.specs.Counts.{good-value}
 use Rattle.dat.specs.Accepted.{Markers, row-in}
 use Rattle.demap.specs.Soft.{softBit}
-use Rattle.demap.specs.SoftLaws.{milli}
+use Rattle.demap.specs.SignLaw.{milli}
 use Rattle.snr.specs.Median.{medianOf}
 use Rattle.snr.specs.MedianLaws.{median-same}
 use Rattle.eq.specs.Steps.{Preceded, coherentOf, coherenceOf, turnOf, stepOf, packedAt, steppedOf}
@@ -39,8 +39,7 @@ use Rattle.marks.specs.PlaceLaws.{place-at, in-frame, places-count, symbol-plac
 use Rattle.marks.specs.Products.{markedPlace, productAt}
 use Rattle.soft.specs.SoftCells.{softCells}
 use Rattle.soft.specs.SoftCells as soft
-use Rattle.decode.specs.Steps.{symbolIn, markCells, coherentAt, coherence, coherenceTurn}
-use Rattle.decode.specs.Steps.{stepFrom, stepCount, stepPlace, undivided, scratchOf}
+use Rattle.decode.specs.Steps.{symbolIn, markCells, coherentAt, coherence, coherenceTurn, stepFrom, stepCount, stepPlace, undivided, scratchOf}
 use Rattle.decode.specs.Noise.{varianceIn}
 use Rattle.decode.specs.SoftBits.{dataCells, cellOf, softIn}
 use Rattle.decode.specs.Median.{productOf, markerProduct, phaseMedian}

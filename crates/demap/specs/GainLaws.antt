@@ -24,7 +24,7 @@ use Rattle.root.specs.Root.{normOf, sqrtOf}
 use Rattle.root.specs.RootFacts.{sqrt-zero, sqrt-square}
 use Rattle.root.specs.NormLaws.{norm-sqr-finite, norm-sqr-fits, norm-finite, norm-plain, norm-fits}
 use Rattle.demap.specs.Gain.{sumOfNorms, meanNorm}
-use Rattle.demap.specs.NearestLaws.{Near}
+use Rattle.demap.specs.SignLaw.{Near}
 
 -- ---- numbers
 square-le : (a b : ℕ) → a * a ≤ b * b → a ≤ b

@@ -1,6 +1,7 @@
 pub mod Nearest
 pub mod Candidates
 pub mod Soft
+pub mod SignLaw
 pub mod Fill
 pub mod NearestLaws
 pub mod CandidateLaws

@@ -13,16 +13,13 @@ use Rattle.complex.specs.declared.Complex.{Complex}
 use Rattle.complex.specs.Arithmetic.{cx}
 use Rattle.laws.specs.Order.{lt-le, not-lt-le, lt-le-trans}
 use Rattle.laws.specs.Plain.{plain, cross-le}
-use Rattle.laws.specs.Size.{Within, sub-within}
+use Rattle.laws.specs.Size.{sub-within}
 use Rattle.root.specs.NormLaws.{norm-sqr-plain, norm-sqr-fits}
 use Rattle.demap.specs.declared.Closest.{Closest}
+use Rattle.demap.specs.SignLaw.{Near}
 use Rattle.demap.specs.Nearest.{distSqr, closest, nearestOf}
 
 -- ---- distances
--- a complex number with parts of at most 2 ^ k
-abbrev pub Near : Complex → ℕ → Type 0
-Near z k = Within (z .re) k × Within (z .im) k
-
 pub dist-fits : (z c : Complex) → T (fits binary64 (distSqr z c))
 unfolding distSqr
 dist-fits z c = norm-sqr-fits (cx (sub binary64 (z .re) (c .re)) (sub binary64 (z .im) (c .im)))

@@ -15,9 +15,10 @@ use Rattle.constellation.specs.Bits.{Bits, label-below, label-bit, bits-equal}
 use Rattle.laws.specs.Tests.{signBit}
 use Rattle.laws.specs.Size.{within-mono}
 use Rattle.demap.specs.Nearest.{distSqr, pointAt, nearest}
-use Rattle.demap.specs.NearestLaws.{Near, First, nearest-below}
+use Rattle.demap.specs.NearestLaws.{First, nearest-below}
+use Rattle.demap.specs.SignLaw.{Near, Variance, PointsWithin, SignLaw}
 use Rattle.demap.specs.Soft.{softBit}
-use Rattle.demap.specs.SoftLaws.{Variance, nearest-is, soft-sign}
+use Rattle.demap.specs.SoftLaws.{nearest-is, soft-sign}
 
 -- every part of a point is at most 1
 point-near : (w j : ℕ) → 1 ≤ w → w ≤ 2 → j < 2 ^ w → Near (pointAt (alphabet w) j) 0
@@ -34,10 +35,15 @@ point-near (suc (suc zero)) (suc (suc (suc (suc j)))) l h k = absurd (omega arit
 point-near (suc (suc (suc w))) j l h k = absurd (omega arith)
 
 module _ (w : ℕ) (low : 1 ≤ w) (high : w ≤ 2) where
-  near : (j : ℕ) → j < 2 ^ w → Near (pointAt (alphabet w) j) 500
-  near j l =
-      let p = point-near w j low high l in
-      (within-mono (pointAt (alphabet w) j .re) 0 500 (lit≤ tt) (p .0), within-mono (pointAt (alphabet w) j .im) 0 500 (lit≤ tt) (p .1))
+  psk-points : PointsWithin w 500 (alphabet w)
+  psk-points =
+      record {
+        count = alphabet-length w low high;
+        room = lit≤ tt;
+        near = λ j l.
+            let p = point-near w j low high l in
+            (within-mono (pointAt (alphabet w) j .re) 0 500 (lit≤ tt) (p .0), within-mono (pointAt (alphabet w) j .im) 0 500 (lit≤ tt) (p .1));
+      }
 
   -- whatever z is, the nearest label is one of the alphabet
   pub psk-label-below : (z : Complex) → nearest (alphabet w) z .label < 2 ^ w
@@ -46,11 +52,12 @@ module _ (w : ℕ) (low : 1 ≤ w) (high : w ≤ 2) where
       rw (alphabet-length w low high) (nearest-below (λ j. distSqr z (pointAt (alphabet w) j)) (2 ^ w) (pow-pos w))
 
   pub psk-nearest : (z : Complex) → Near z 500 → First (λ j. distSqr z (pointAt (alphabet w) j)) (2 ^ w) (nearest (alphabet w) z)
-  psk-nearest z p = nearest-is w 500 (alphabet w) (alphabet-length w low high) (lit≤ tt) near z p
+  psk-nearest z p = nearest-is w 500 (alphabet w) psk-points z p
 
   pub psk-sign : (b : ℕ) (z : Complex) (nvar : Float) → b < w → Near z 500 → Variance nvar
       → signBit (softBit w (alphabet w) b z nvar) ≡ labelBit w b (nearest (alphabet w) z .label)
-  psk-sign b z nvar B p v = soft-sign w 500 (alphabet w) (alphabet-length w low high) (lit≤ tt) near b z nvar B p v
+  unfolding SignLaw
+  psk-sign b z nvar B p v = soft-sign w 500 (alphabet w) psk-points b B z p nvar v
 
   -- ---- a cell read: its sign bits are the w bits of a payload from `at` on exactly when the nearest label is the one that those bits spell
   module _ (z : Complex) (nvar : Float) (p : Near z 500) (v : Variance nvar) (payload : List ℕ) (at : ℕ) (bits : Bits payload at w) where

@@ -1,4 +1,4 @@
--- The sign bit of soft bit b is bit b of the nearest label, once over the size of the alphabet. Assumes nothing.
+-- `SignLaw` holds, once over the size of the alphabet. Assumes nothing.
 use Prim.Native.Nat.{ℕ, zero, suc, _+_, _^_, _≤_, _<_}
 use mathlib.Core.Path.{_≡_, refl, _∙_}
 use mathlib.Core.Bool.{Bool, true, false, cond}
@@ -6,14 +6,12 @@ use mathlib.Core.List.{List}
 use native.Mathlib.Numerals.{add-one}
 use native.Mathlib.Omega.{arith}
 use lib.Dec.{T, eqb, lit≤}
-use lib.ListN.{length}
 use lib.Pow.{pow-pos}
 use lib.Ieee.{Float, binary64, sub, mul, div, neg, lt, le, fits, ofBits}
 use lib.Ieee.Fits.{mul-fits, neg-fits}
 use Rattle.complex.specs.declared.Complex.{Complex}
 use Rattle.constellation.specs.Alphabet.{fone}
 use Rattle.constellation.specs.Label.{labelBit}
-use Rattle.laws.specs.Tests.{signBit}
 use Rattle.laws.specs.Sign.{Signed, neg-signed}
 use Rattle.laws.specs.SignBit.{sign-bit-of}
 use Rattle.laws.specs.Plain.{plain}
@@ -21,7 +19,8 @@ use Rattle.laws.specs.Operations.{sub-plain, mul-plain-signed}
 use Rattle.laws.specs.Maximum.{maxf, maxf-ge, recip-plain}
 use Rattle.demap.specs.declared.Closest.{Closest}
 use Rattle.demap.specs.Nearest.{distSqr, pointAt, nearest}
-use Rattle.demap.specs.NearestLaws.{Near, dist-plain, dist-fits, First, nearest-first, plain-below-inf}
+use Rattle.demap.specs.SignLaw.{Near, milli, Variance, PointsWithin, SignLaw}
+use Rattle.demap.specs.NearestLaws.{dist-plain, dist-fits, First, nearest-first, plain-below-inf}
 use Rattle.demap.specs.Candidates.{candidate}
 use Rattle.demap.specs.CandidateLaws.{candidate-is}
 use Rattle.demap.specs.Soft.{leastOf, alternative, softOf, softBit}
@@ -52,13 +51,7 @@ least-is P d (suc n) h p =
     go true q = p (suc n) (omega arith)
     go false q = q
 
--- ---- the noise variance: what `dpsk_nvar` gives is no NaN and at least 1e-3
-abbrev pub milli : Float
-milli = ofBits binary64 0x3f50_624d_d2f1_a9fc
-
-abbrev pub Variance : Float → Type 0
-Variance nvar = Signed false nvar × T (le milli nvar)
-
+-- ---- the noise variance
 pub variance-floored : (x : Float) → Variance (maxf x milli)
 unfolding ofBits
 variance-floored x = maxf-ge x milli tt
@@ -92,11 +85,11 @@ soft-fits w points b z r s =
     turned-fits (eqb (labelBit w b (r .label)) 0) (mul binary64 (sub binary64 (alternative w points b (r .label) z) (r .distance)) s)
     (mul-fits binary64 (sub binary64 (alternative w points b (r .label) z) (r .distance)) s)
 
-module _ (w k : ℕ) (points : List Complex) (L : length points ≡ 2 ^ w) (K : k ≤ 510) (A : (j : ℕ) → j < 2 ^ w → Near (pointAt points j) k) where
+module _ (w k : ℕ) (points : List Complex) (W : PointsWithin w k points) where
   -- the nearest point is the first of the least distances
   pub nearest-is : (z : Complex) → Near z k → First (λ j. distSqr z (pointAt points j)) (2 ^ w) (nearest points z)
   unfolding nearest
-  nearest-is z p = rw L (nearest-first (λ j. distSqr z (pointAt points j)) (2 ^ w) (pow-pos w) (λ j l. dist-plain z (pointAt points j) k K p (A j l)))
+  nearest-is z p = rw (W .count) (nearest-first (λ j. distSqr z (pointAt points j)) (2 ^ w) (pow-pos w) (λ j l. dist-plain z (pointAt points j) k (W .room) p (W .near j l)))
 
   soft-signed : (b : ℕ) (z : Complex) (s : Float) → b < w → Near z k → T (plain s) → Signed (eqb (labelBit w b (nearest points z .label)) 1) (softOf w points b z (nearest points z) s)
   unfolding softOf alternative
@@ -105,9 +98,9 @@ module _ (w k : ℕ) (points : List Complex) (L : length points ≡ 2 ^ w) (K : 
       let f = nearest-is z p in
       let candidates : ℕ → Complex = λ i. pointAt points (candidate w points b (r .label) i) in
       let d : ℕ → Float = λ i. distSqr z (candidates i) in
-      let c = candidate-is w b (r .label) points L B (f .label-below) in
-      let dh : T (plain (r .distance)) = rw (f .distance-at) (dist-plain z (pointAt points (r .label)) k K p (A (r .label) (f .label-below))) in
-      let h : (i : ℕ) → i < 4 → T (plain (d i)) = λ i l. dist-plain z (candidates i) k K p (A (candidate w points b (r .label) i) (c i .0)) in
+      let c = candidate-is w b (r .label) points (W .count) B (f .label-below) in
+      let dh : T (plain (r .distance)) = rw (f .distance-at) (dist-plain z (pointAt points (r .label)) k (W .room) p (W .near (r .label) (f .label-below))) in
+      let h : (i : ℕ) → i < 4 → T (plain (d i)) = λ i l. dist-plain z (candidates i) k (W .room) p (W .near (candidate w points b (r .label) i) (c i .0)) in
       let no-less : T (le (r .distance) (leastOf d 4)) =
       least-is (λ x. T (le (r .distance) x)) d 3 h (λ i l. rw (f .least (candidate w points b (r .label) i) (c i .0)) tt) in
       let difference : T (plain (sub binary64 (leastOf d 4) (r .distance))) =
@@ -115,11 +108,10 @@ module _ (w k : ℕ) (points : List Complex) (L : length points ≡ 2 ^ w) (K : 
       turned (labelBit w b (r .label)) (mul binary64 (sub binary64 (leastOf d 4) (r .distance)) s) (bit-below w b (r .label))
       (mul-plain-signed binary64 (sub binary64 (leastOf d 4) (r .distance)) s difference S)
 
-  -- THE SIGN LAW: for an alphabet of 2 ^ w points and a step, each with parts of at most 2 ^ k, the sign bit of soft bit b is bit b of the nearest label
-  pub soft-sign : (b : ℕ) (z : Complex) (nvar : Float) → b < w → Near z k → Variance nvar → signBit (softBit w points b z nvar) ≡ labelBit w b (nearest points z .label)
-  unfolding softBit
-  soft-sign b z nvar B p v =
-      let r = nearest points z in
-      let s = div binary64 fone nvar in
-      sign-bit-of (eqb (labelBit w b (r .label)) 1) (softOf w points b z r s) (soft-signed b z s B p (variance-recip nvar v)) (soft-fits w points b z r s)
-      ∙ as-bit (labelBit w b (r .label)) (bit-below w b (r .label))
+pub soft-sign : SignLaw
+unfolding SignLaw softBit
+soft-sign w k points W b B z p nvar v =
+    let r = nearest points z in
+    let s = div binary64 fone nvar in
+    sign-bit-of (eqb (labelBit w b (r .label)) 1) (softOf w points b z r s) (soft-signed w k points W b z s B p (variance-recip nvar v)) (soft-fits w points b z r s)
+    ∙ as-bit (labelBit w b (r .label)) (bit-below w b (r .label))

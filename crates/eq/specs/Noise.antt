@@ -10,7 +10,7 @@ use Rattle.complex.specs.Pairs.{cget}
 use Rattle.laws.specs.Maximum.{maxf}
 use Rattle.root.specs.Root.{normOf}
 use Rattle.level.specs.Kept.{whole}
-use Rattle.demap.specs.SoftLaws.{milli}
+use Rattle.demap.specs.SignLaw.{milli}
 
 -- |w − norm w|²: a real is taken from the real part alone
 unfoldable pub deviationOf : Complex → Float

@@ -26,8 +26,7 @@ use Rattle.level.specs.Lengths.{cells}
 use Rattle.level.specs.Sized.{Sized, sized}
 use Rattle.dat.specs.Cells.{Cell, cellAt}
 use Rattle.dat.specs.Accepted.{row-in}
-use Rattle.demap.specs.NearestLaws.{Near}
-use Rattle.demap.specs.SoftLaws.{Variance}
+use Rattle.demap.specs.SignLaw.{Near, Variance}
 use Rattle.demap.specs.PskLaws.{read-says, read-by}
 use Rattle.psk.specs.Symbols.{Sending, cellNumber, bitPlace, cellLabel}
 use Rattle.psk.specs.Accepted.{Ready}

@@ -17,8 +17,8 @@ use Rattle.level.specs.Rows.{IsLayout}
 use Rattle.level.specs.Sized.{Sized, sized}
 use Rattle.dat.specs.Cells.{cellAt}
 use Rattle.dat.specs.Accepted.{Markers, markers-of, row-in}
-use Rattle.demap.specs.NearestLaws.{Near}
-use Rattle.demap.specs.SoftLaws.{Variance, variance-floored}
+use Rattle.demap.specs.SignLaw.{Near, Variance}
+use Rattle.demap.specs.SoftLaws.{variance-floored}
 use Rattle.demap.specs.GainLaws.{gain-near}
 use Rattle.demap.specs.PskLaws.{psk-label-below, psk-sign}
 use Rattle.psk.specs.Numbers.{Numbered, entry-numbered}

@@ -10,7 +10,7 @@ use Rattle.complex.specs.Sums.{fsumTo, fsum-step}
 use Rattle.complex.specs.Pairs.{cget}
 use Rattle.level.specs.Kept.{whole}
 use Rattle.eq.specs.Noise.{deviationOf, noiseOf}
-use Rattle.demap.specs.SoftLaws.{milli}
+use Rattle.demap.specs.SignLaw.{milli}
 use borrow.Author.Needs.{needs}
 use Rattle.eq.proofs.noise_variance.Statement.{statement}
 use Rattle.eq.proofs.noise_variance.Tie as tie
