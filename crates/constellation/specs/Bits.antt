@@ -8,7 +8,7 @@ use native.Mathlib.Nat.{eq-or-lt-of-le, le-of-suc-le-suc, div-div-eq-div-mul, po
 use lib.ListN.{getD}
 use Rattle.constellation.specs.Label.{labelAt, labelBit}
 
--- "One bit is one byte, 0 or 1": n bytes from `at` on
+-- n bytes from `at` on, none of them "a byte above 1"
 abbrev pub Bits : List ℕ → ℕ → ℕ → Type 0
 Bits payload at n = (i : ℕ) → i < n → getD payload (at + i) 0 ≤ 1
 

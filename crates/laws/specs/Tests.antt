@@ -3,12 +3,12 @@ use Prim.Native.Nat.{ℕ, _/_, _^_}
 use mathlib.Core.Bool.{Bool, _&&_}
 use lib.Ieee.{Float, binary64, le, neg, toBits}
 
--- not "outside low to high": both ends belong to the range, −0 counts as 0, and a NaN is outside
+-- as in "part outside −1 to 1": both ends belong to the range, −0 counts as 0, and a NaN is outside
 unfoldable pub inRange : Float → Float → Float → Bool
 unfolding le
 inRange low high x = le low x && le x high
 
--- not "above bound in size", from −bound to bound: for a finite bound only finite values pass (`in-size-finite`)
+-- as in "above 256 in size", from −bound to bound: for a finite bound only finite values pass (`in-size-finite`)
 unfoldable pub inSize : Float → Float → Bool
 unfolding inRange neg
 inSize bound x = inRange (neg bound) bound x

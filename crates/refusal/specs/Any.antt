@@ -1,4 +1,4 @@
--- A condition that some entry meets: "a byte above 1", "a part not finite" (01, "Where each fault is met"), with what loops cite of it.
+-- A condition that some entry meets: "a byte above 1", "part not finite" (01, "Where each fault is met"), with what loops cite of it.
 use Prim.Native.Nat.{ℕ, zero, suc, _+_, _<_, _≤_}
 use mathlib.Core.Path.{_≡_, refl}
 use mathlib.Core.Bool.{Bool, true, false, _||_, or-true}
