@@ -1,7 +1,6 @@
-// Tests of floats that the checks of 01, "Where each fault is met", are made of, the sign bit, and the cut to a whole number.
+// Tests of floats that the checks of 01, "Where each fault is met", are made of, and the sign bit.
 // The laws of float arithmetic stand in specs/.
 ghost use mathlib.Core.Path.{_≡_};
-ghost use lib.Ieee.{toUnsigned};
 ghost use lib.Ieee.Scale.{finite};
 ghost use Rattle.laws.specs.Tests.{inRange, inSize, signBit};
 
@@ -41,17 +40,4 @@ pub fn sign_bit(x: f64) -> u8
         return 0;
     }
     (f64::to_bits(x) / 0x8000_0000_0000_0000) as u8
-}
-
-// Rust's `x as u64`: toward zero, to the nearest end of the range where x is out of it, and 0 for a NaN.
-pub fn truncate(x: f64) -> u64
-    ensures { λ r. ⌜ r ≡ toUnsigned 64 x ⌝ }
-{
-    if x > -1.0 {
-        if x < 18446744073709551616.0 {
-            return std::num::truncating_f64_to_u64(x);
-        }
-        return 18446744073709551615;
-    }
-    0
 }
