@@ -12,7 +12,8 @@ use Rattle.refusal.specs.Any.{any}
 use Rattle.refusal.specs.Clear.{neither, clear-first}
 use Rattle.laws.specs.Tests.{inSize}
 use Rattle.level.specs.declared.Layout.{Layout}
-use Rattle.level.specs.Frames.{wrongFrames, frames-of}
+use Rattle.level.specs.Frames.{wrongFrames}
+use Rattle.level.specs.FramesLaws.{frames-of}
 use Rattle.level.specs.Lengths.{rowLength, audioLength}
 use Rattle.level.specs.Rows.{IsLayout}
 use Rattle.nco.specs.Nco.{wrongPhases}

@@ -11,7 +11,8 @@ use lib.Ieee.{Float, nan, binary64, add}
 use borrow.Author.Tests.{ltb-true, ltb-false, lt-ltb, le-ltb}
 use Rattle.complex.specs.declared.Complex.{Complex}
 use Rattle.complex.specs.Arithmetic.{fzero}
-use Rattle.complex.specs.Lists.{tabulate, filled, length-tabulate, tabulate-ext, getD-tabulate, filled-length, filled-at}
+use Rattle.complex.specs.Lists.{tabulate, filled}
+use Rattle.complex.specs.ListLaws.{length-tabulate, tabulate-ext, getD-tabulate, filled-length, filled-at}
 use Rattle.complex.specs.Pairs.{cget}
 use Rattle.level.specs.declared.Layout.{Layout}
 use Rattle.level.specs.Lengths.{carrierAudioLength}

@@ -7,13 +7,14 @@ use native.Mathlib.Nat.{mul-le-mul}
 use lib.Dec.{lit≤}
 use lib.ListN.{length}
 use lib.Ieee.{Float}
-use Rattle.complex.specs.Lists.{tabulate, length-tabulate}
+use Rattle.complex.specs.Lists.{tabulate}
+use Rattle.complex.specs.ListLaws.{length-tabulate}
 use Rattle.complex.specs.Pairs.{parts}
 use Rattle.level.specs.declared.Layout.{Layout}
 use Rattle.level.specs.Layout.{pulseOf}
 use Rattle.level.specs.Lengths.{rowLength, audioLength}
 use Rattle.level.specs.Rows.{IsLayout}
-use Rattle.level.specs.Sized.{sized, row-most}
+use Rattle.level.specs.SizedLaws.{sized, row-most}
 use Rattle.taps.specs.Taps.{senderTap}
 use Rattle.nco.specs.Rows.{row-within}
 use Rattle.audio.specs.Parts.{First, Covered, Row, Ready}

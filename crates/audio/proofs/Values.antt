@@ -9,8 +9,10 @@ use lib.Ieee.{Float, nan}
 use lib.Ieee as Ieee
 use Rattle.complex.specs.declared.Complex.{Complex}
 use Rattle.complex.specs.Arithmetic.{czero}
-use Rattle.complex.specs.Lists.{tabulate, length-tabulate, tabulate-ext, getD-tabulate}
-use Rattle.complex.specs.Pairs.{cget, parts, cfilled, cfilled-at}
+use Rattle.complex.specs.Lists.{tabulate}
+use Rattle.complex.specs.ListLaws.{length-tabulate, tabulate-ext, getD-tabulate}
+use Rattle.complex.specs.Pairs.{cget, parts, cfilled}
+use Rattle.complex.specs.PairLaws.{cfilled-at}
 use Rattle.level.specs.declared.Layout.{Layout}
 use Rattle.level.specs.Layout.{pulseOf, stagger}
 use Rattle.level.specs.Lengths.{rowLength}

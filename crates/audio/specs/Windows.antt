@@ -8,7 +8,8 @@ use lib.ListN.{length, getD, take, drop}
 use lib.Seq.{take-at, drop-at}
 use lib.Ieee.{Float, nan}
 use Rattle.complex.specs.declared.Complex.{Complex}
-use Rattle.complex.specs.Lists.{tabulate, length-tabulate, tabulate-ext}
+use Rattle.complex.specs.Lists.{tabulate}
+use Rattle.complex.specs.ListLaws.{length-tabulate, tabulate-ext}
 use Rattle.complex.specs.Pairs.{cget}
 use Rattle.refusal.specs.Outcome.{Outcome, answered}
 use Rattle.level.specs.declared.Layout.{Layout}

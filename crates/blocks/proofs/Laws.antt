@@ -10,7 +10,8 @@ use lib.Seq.{getD-append-add, getD-drop, getD-take}
 use lib.Ieee.{Float, nan}
 use Rattle.complex.specs.declared.Complex.{Complex}
 use Rattle.complex.specs.Arithmetic.{czero, cadd, cmul}
-use Rattle.complex.specs.Lists.{tabulate, filled, length-tabulate, filled-none, filled-length, filled-step, filled-at}
+use Rattle.complex.specs.Lists.{tabulate, filled}
+use Rattle.complex.specs.ListLaws.{length-tabulate, filled-none, filled-length, filled-step, filled-at}
 use Rattle.complex.specs.Sums.{sumTo}
 use Rattle.complex.specs.Pairs.{cget}
 use Rattle.chi.specs.Dot.{dotTerm, dotAt}

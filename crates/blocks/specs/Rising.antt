@@ -8,7 +8,7 @@ use native.Mathlib.Nat.{le-trans, eq-or-lt-of-le, mul-le-mul-right, div-mul-le-s
 use native.Mathlib.Omega.{arith}
 use lib.ListN.{length, getD, length-append, List·getD-append}
 use lib.Seq.{getD-at}
-use Rattle.complex.specs.Lists.{length-tabulate, getD-tabulate}
+use Rattle.complex.specs.ListLaws.{length-tabulate, getD-tabulate}
 use Rattle.level.specs.declared.Layout.{Layout}
 use Rattle.level.specs.Rows.{IsLayout}
 use Rattle.level.specs.Kept.{keptCells}
@@ -16,7 +16,7 @@ use Rattle.dat.specs.Tables.{marked}
 use Rattle.dat.specs.Cells.{symbolsWhere, marksOf, cellsOf, thin}
 use Rattle.dat.specs.Counts.{cells-count}
 use Rattle.dat.specs.Accepted.{Markers}
-use Rattle.dat.specs.Select.{thin-is, thin-in}
+use Rattle.dat.specs.SelectLaws.{thin-is, thin-in}
 use Rattle.chi.specs.declared.Sum.{Sum}
 use Rattle.chi.specs.declared.Sum.the-variants.{Pilot, Data}
 use Rattle.chi.specs.Table.{symbolsOf}

@@ -8,11 +8,11 @@ use native.Mathlib.Omega.{arith}
 use lib.ListN.{length, getD, drop, length-map, length-drop}
 use lib.Seq.{take-all, drop-at, take-append-le, drop-append-le}
 use lib.Ieee.{Float}
-use Rattle.complex.specs.Pairs.{length-parts}
+use Rattle.complex.specs.PairLaws.{length-parts}
 use Rattle.level.specs.declared.Layout.{Layout}
 use Rattle.level.specs.Lengths.{memoryLength}
 use Rattle.level.specs.Rows.{IsLayout}
-use Rattle.level.specs.Sized.{sized}
+use Rattle.level.specs.SizedLaws.{sized}
 use Rattle.dat.specs.Cells.{Cell, cellAt, byCarrier}
 use Rattle.dat.specs.Counts.{byCarrier-count}
 use Rattle.dat.specs.Accepted.{Markers}

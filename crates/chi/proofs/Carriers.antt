@@ -8,7 +8,8 @@ use native.Mathlib.Omega.{arith}
 use lib.ListN.{length, take, drop, length-map, drop-of-length-le}
 use lib.Seq.{take-at, drop-at, drop-drop}
 use lib.Ieee.{Float}
-use Rattle.complex.specs.Pairs.{parts, parts-append, length-parts}
+use Rattle.complex.specs.Pairs.{parts}
+use Rattle.complex.specs.PairLaws.{parts-append, length-parts}
 use Rattle.level.specs.declared.Layout.{Layout}
 use Rattle.level.specs.Rows.{IsLayout}
 use Rattle.dat.specs.Cells.{Cell, cellAt, byCarrier}

@@ -6,19 +6,19 @@ use mathlib.Core.List.{List, [], _∷_, map}
 use native.Mathlib.Nat.{le-trans, min-le-left, min-le-right, mul-le-mul-left, mul-le-mul-right, mul-div-le, le-div-iff-mul-le, suc-mul}
 use native.Mathlib.Omega.{arith}
 use lib.ListN.{length, getD}
-use Rattle.complex.specs.Lists.{length-tabulate}
+use Rattle.complex.specs.ListLaws.{length-tabulate}
 use Rattle.level.specs.declared.Layout.{Layout}
 use Rattle.level.specs.Layout.{stagger}
 use Rattle.level.specs.Lengths.{cells, memoryLength}
 use Rattle.level.specs.Rows.{IsLayout}
-use Rattle.level.specs.Sized.{sized, stagger-within}
+use Rattle.level.specs.SizedLaws.{sized, stagger-within}
 use Rattle.level.specs.Kept.{keptCells}
 use Rattle.level.specs.KeptLaws.{kept-are}
 use Rattle.dat.specs.Tables.{marked}
 use Rattle.dat.specs.Cells.{symbolsWhere, Cell, cellAt, byCarrier, marksOf, cellsOf, thin}
 use Rattle.dat.specs.Counts.{marks-count, cells-count, byCarrier-count}
 use Rattle.dat.specs.Accepted.{Markers}
-use Rattle.dat.specs.Select.{thin-is, thin-in}
+use Rattle.dat.specs.SelectLaws.{thin-is, thin-in}
 use Rattle.track.specs.Memory.{partLength}
 use Rattle.chi.specs.declared.Sum.{Sum}
 use Rattle.chi.specs.declared.Sum.the-variants.{Pilot, Data}

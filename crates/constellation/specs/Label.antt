@@ -1,4 +1,4 @@
--- Labels as bits (01, "Sending symbols": "label 0 to 3, high bit first").
+-- Labels as bits (01, "Sending symbols": "label 0 to 3, high bit first"). Definitions only.
 use Prim.Native.Nat.{ℕ, zero, suc, _+_, _-_, _*_, _/_, _%_, _^_}
 use mathlib.Core.List.{List}
 use lib.ListN.{getD}

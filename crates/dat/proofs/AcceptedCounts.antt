@@ -1,7 +1,7 @@
 -- `AcceptedCounts` holds. Assumes nothing.
-use Rattle.level.specs.Sized.{sized}
+use Rattle.level.specs.SizedLaws.{sized}
 use Rattle.dat.specs.Counts.{marks-count, cells-count, all-cells-count}
-use Rattle.dat.specs.Accepted.{markers-of}
+use Rattle.dat.specs.AcceptedLaws.{markers-of}
 use Rattle.dat.specs.AcceptedCounts.{AcceptedCounts}
 
 pub accepted-counts : AcceptedCounts

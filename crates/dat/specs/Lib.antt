@@ -2,6 +2,9 @@ pub mod Tables
 pub mod Cells
 pub mod Counts
 pub mod Accepted
+pub mod AcceptedLaws
 pub mod Select
+pub mod SelectLaws
 pub mod Flags
+pub mod FlagLaws
 pub mod AcceptedCounts

@@ -12,9 +12,11 @@ use lib.Ieee.{Float}
 use borrow.Author.Tests.{lt-ltb, le-ltb}
 use Rattle.complex.specs.declared.Complex.{Complex}
 use Rattle.complex.specs.Arithmetic.{czero}
-use Rattle.complex.specs.Lists.{tabulate, length-tabulate, tabulate-ext}
-use Rattle.complex.specs.Sums.{fsum-ext}
-use Rattle.complex.specs.Pairs.{cget, cfilled, parts, length-parts, parts-append, parts-at}
+use Rattle.complex.specs.Lists.{tabulate}
+use Rattle.complex.specs.ListLaws.{length-tabulate, tabulate-ext}
+use Rattle.complex.specs.SumLaws.{fsum-ext}
+use Rattle.complex.specs.Pairs.{cget, cfilled, parts}
+use Rattle.complex.specs.PairLaws.{length-parts, parts-append, parts-at}
 use Rattle.complex.specs.Rows.{quotient, remainder}
 use Rattle.root.specs.Root.{normOf}
 use Rattle.constellation.specs.Alphabet.{alphabet}

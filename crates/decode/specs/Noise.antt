@@ -5,7 +5,7 @@ use lib.ListN.{length, getD}
 use lib.Ieee.{Float, binary64, div}
 use Rattle.complex.specs.declared.Complex.{Complex}
 use Rattle.complex.specs.Sums.{fsumTo}
-use Rattle.laws.specs.Maximum.{maxf}
+use Rattle.laws.specs.Floats.{maxf}
 use Rattle.level.specs.declared.Layout.{Layout}
 use Rattle.level.specs.Kept.{whole}
 use Rattle.dat.specs.Cells.{cellAt}

@@ -11,21 +11,26 @@ use lib.Ieee.{Float, binary64, div}
 use borrow.Author.Tests.{ltb-true}
 use Rattle.complex.specs.declared.Complex.{Complex}
 use Rattle.complex.specs.Arithmetic.{czero, cmul, cconj}
-use Rattle.complex.specs.Lists.{tabulate, tabulate-ext}
-use Rattle.complex.specs.Sums.{sumTo, fsumTo, sum-ext, fsum-ext}
-use Rattle.complex.specs.Pairs.{cget, cfilled, pairs, parts, cfilled-at, pair-at}
-use Rattle.laws.specs.Maximum.{maxf}
+use Rattle.complex.specs.Lists.{tabulate}
+use Rattle.complex.specs.ListLaws.{tabulate-ext}
+use Rattle.complex.specs.Sums.{sumTo, fsumTo}
+use Rattle.complex.specs.SumLaws.{sum-ext, fsum-ext}
+use Rattle.complex.specs.Pairs.{cget, cfilled, pairs, parts}
+use Rattle.complex.specs.PairLaws.{cfilled-at, pair-at}
+use Rattle.laws.specs.Floats.{maxf}
 use Rattle.root.specs.Unit.{unitOf}
 use Rattle.constellation.specs.Alphabet.{alphabet}
 use Rattle.level.specs.declared.Layout.{Layout}
 use Rattle.level.specs.Kept.{whole}
 use Rattle.level.specs.Rows.{IsLayout}
 use Rattle.level.specs.Lengths.{cells}
-use Rattle.level.specs.Sized.{Sized, sized}
+use Rattle.level.specs.Sized.{Sized}
+use Rattle.level.specs.SizedLaws.{sized}
 use Rattle.dat.specs.Tables.{value}
 use Rattle.dat.specs.Cells.{Cell, cellAt, byCarrier}
 use Rattle.dat.specs.Counts.{good-value}
-use Rattle.dat.specs.Accepted.{Markers, row-in}
+use Rattle.dat.specs.Accepted.{Markers}
+use Rattle.dat.specs.AcceptedLaws.{row-in}
 use Rattle.demap.specs.Soft.{softBit}
 use Rattle.demap.specs.SignLaw.{milli}
 use Rattle.snr.specs.Median.{medianOf}

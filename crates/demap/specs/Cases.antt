@@ -1,4 +1,4 @@
--- The cases marked (P): "step 1+j, nvar 1: label 0, soft +4, +0; step −1+j: label 1, soft +0, −4".
+-- The cases marked (P): "step 1+j, nvar 1: label 0, soft +4, +0; step −1+j: label 1, soft +0, −4". Assumes nothing.
 use mathlib.Core.Path.{_≡_, refl}
 use lib.Ieee.{Float, binary64, ofBits, neg, add, sub, mul, div}
 use Rattle.complex.specs.declared.Complex.{Complex}

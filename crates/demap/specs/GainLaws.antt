@@ -15,10 +15,11 @@ use lib.Ieee.Scale.{finite}
 use lib.Ieee.Positive.{num, den, den-pos, through, positive}
 use Rattle.complex.specs.declared.Complex.{Complex}
 use Rattle.complex.specs.Arithmetic.{fzero, cdiv, normSqr}
-use Rattle.laws.specs.Sign.{Signed, signOf, signed-of, round-signed}
-use Rattle.laws.specs.Plain.{plain, plain-finite, plain-signed, finite-plain, positive-plain, positive-num, value-plain}
-use Rattle.laws.specs.Size.{Within, within-mono, round-within}
-use Rattle.laws.specs.Rounding.{smallest, round-zero, round-half}
+use Rattle.laws.specs.Sign.{signed-of, round-signed}
+use Rattle.laws.specs.Floats.{Signed, signOf, plain, Within}
+use Rattle.laws.specs.Plain.{plain-finite, plain-signed, finite-plain, positive-plain, positive-num, value-plain}
+use Rattle.laws.specs.Size.{within-mono, round-within}
+use Rattle.laws.specs.Rounding.{smallest, round-zero, round-half, zero-not-above}
 use Rattle.laws.specs.Operations.{square-is, div-is, add-finite, div-finite, add-plain, add-comm, add-ge, add-zeros, add-nought}
 use Rattle.root.specs.Root.{normOf, sqrtOf}
 use Rattle.root.specs.RootFacts.{sqrt-zero, sqrt-square}
@@ -254,12 +255,9 @@ module _ (S c : Float) (n : ℕ) (C : Count n c) (P : T (plain S)) (G : T (posit
             (le-trans (le-of-eq (turn (num S) (den c) (den g)))
             (le-trans h (le-of-eq (ap (λ (x : ℕ). 2 * num g * (x * den S)) (C .value) ∙ gather n (den c) (den S) (num g)))))
             (den-pos c)
-        | inr z ↦ absurd (none (num g) (positive-num g p) (z .0))
+        | inr z ↦ absurd (zero-not-above (num g) (z .0) (positive-num g p))
       ])
     where
-      none : (a : ℕ) → 0 < a → a ≡ 0 → ⊥
-      none a h e = omega arith
-
       turn : (S d g : ℕ) → S * g * d ≡ S * d * g
       turn S d g = omega arith
 

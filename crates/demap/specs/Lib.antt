@@ -3,6 +3,7 @@ pub mod Candidates
 pub mod Soft
 pub mod SignLaw
 pub mod Fill
+pub mod FillLaws
 pub mod NearestLaws
 pub mod CandidateLaws
 pub mod SoftLaws

@@ -12,7 +12,8 @@ use lib.Ieee.Positive.{num, den}
 use Rattle.complex.specs.declared.Complex.{Complex}
 use Rattle.complex.specs.Arithmetic.{cx}
 use Rattle.laws.specs.Order.{lt-le, not-lt-le, lt-le-trans}
-use Rattle.laws.specs.Plain.{plain, cross-le}
+use Rattle.laws.specs.Plain.{cross-le}
+use Rattle.laws.specs.Floats.{plain}
 use Rattle.laws.specs.Size.{sub-within}
 use Rattle.root.specs.NormLaws.{norm-sqr-plain, norm-sqr-fits}
 use Rattle.demap.specs.declared.Closest.{Closest}

@@ -9,9 +9,10 @@ use lib.Pow.{pow-pos}
 use lib.Ieee.{Float, neg, ofBits}
 use Rattle.complex.specs.declared.Complex.{Complex}
 use Rattle.constellation.specs.Alphabet.{alphabet}
-use Rattle.constellation.specs.Points.{alphabet-length}
+use Rattle.constellation.specs.PointLaws.{alphabet-length}
 use Rattle.constellation.specs.Label.{labelAt, labelBit}
-use Rattle.constellation.specs.Bits.{Bits, label-below, label-bit, bits-equal}
+use Rattle.constellation.specs.Bits.{Bits}
+use Rattle.constellation.specs.BitLaws.{label-below, label-bit, bits-equal}
 use Rattle.laws.specs.Tests.{signBit}
 use Rattle.laws.specs.Size.{within-mono}
 use Rattle.demap.specs.Nearest.{distSqr, pointAt, nearest}

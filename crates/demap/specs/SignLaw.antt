@@ -1,5 +1,4 @@
--- The sign law, over the size of the alphabet: the sign bit of a soft bit is that bit of the nearest label
--- (01, "Reading": "A read bit is 1 when the soft bit's sign bit is set."). Definitions only.
+-- The sign law, over the size of the alphabet (01, "Reading"). Definitions only.
 use Prim.Native.Nat.{ℕ, _^_, _≤_, _<_}
 use mathlib.Core.Path.{_≡_}
 use mathlib.Core.Bool.{false}
@@ -10,8 +9,7 @@ use lib.Ieee.{Float, binary64, le, ofBits}
 use Rattle.complex.specs.declared.Complex.{Complex}
 use Rattle.constellation.specs.Label.{labelBit}
 use Rattle.laws.specs.Tests.{signBit}
-use Rattle.laws.specs.Sign.{Signed}
-use Rattle.laws.specs.Size.{Within}
+use Rattle.laws.specs.Floats.{Signed, Within}
 use Rattle.demap.specs.Nearest.{pointAt, nearest}
 use Rattle.demap.specs.Soft.{softBit}
 
@@ -33,7 +31,8 @@ pub record PointsWithin (w k : ℕ) (points : List Complex) : Type 0 where
   pub room : k ≤ 510
   pub near : (j : ℕ) → j < 2 ^ w → Near (pointAt points j) k
 
--- of every such alphabet, every step z with parts of at most 2 ^ k, every such variance and each of the w bits
+-- "A read bit is 1 when the soft bit's sign bit is set.": of every such alphabet, every step z with parts of at most
+-- 2 ^ k, every such variance and each of the w bits, the sign bit of the soft bit is that bit of the nearest label
 unfoldable pub SignLaw : Type 0
 SignLaw =
     (w k : ℕ) (points : List Complex) → PointsWithin w k points

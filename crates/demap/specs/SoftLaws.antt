@@ -12,11 +12,11 @@ use lib.Ieee.Fits.{mul-fits, neg-fits}
 use Rattle.complex.specs.declared.Complex.{Complex}
 use Rattle.constellation.specs.Alphabet.{fone}
 use Rattle.constellation.specs.Label.{labelBit}
-use Rattle.laws.specs.Sign.{Signed, neg-signed}
+use Rattle.laws.specs.Sign.{neg-signed}
+use Rattle.laws.specs.Floats.{Signed, plain, maxf}
 use Rattle.laws.specs.SignBit.{sign-bit-of}
-use Rattle.laws.specs.Plain.{plain}
 use Rattle.laws.specs.Operations.{sub-plain, mul-plain-signed}
-use Rattle.laws.specs.Maximum.{maxf, maxf-ge, recip-plain}
+use Rattle.laws.specs.Maximum.{maxf-ge, recip-plain}
 use Rattle.demap.specs.declared.Closest.{Closest}
 use Rattle.demap.specs.Nearest.{distSqr, pointAt, nearest}
 use Rattle.demap.specs.SignLaw.{Near, milli, Variance, PointsWithin, SignLaw}

@@ -7,7 +7,7 @@ use Rattle.complex.specs.declared.Complex.{Complex}
 use Rattle.complex.specs.Arithmetic.{cx, normSqr}
 use Rattle.complex.specs.Sums.{fsumTo}
 use Rattle.complex.specs.Pairs.{cget}
-use Rattle.laws.specs.Maximum.{maxf}
+use Rattle.laws.specs.Floats.{maxf}
 use Rattle.root.specs.Root.{normOf}
 use Rattle.level.specs.Kept.{whole}
 use Rattle.demap.specs.SignLaw.{milli}

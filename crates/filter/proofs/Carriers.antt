@@ -7,12 +7,14 @@ use borrow.Author.Count.{below-more}
 use lib.ListN.{length}
 use lib.Ieee.{Float, nan}
 use Rattle.complex.specs.declared.Complex.{Complex}
-use Rattle.complex.specs.Lists.{tabulate, filled, filled-at, filled-length}
-use Rattle.complex.specs.Pairs.{complexes-length}
+use Rattle.complex.specs.Lists.{tabulate, filled}
+use Rattle.complex.specs.ListLaws.{filled-at, filled-length}
+use Rattle.complex.specs.PairLaws.{complexes-length}
 use Rattle.level.specs.declared.Layout.{Layout}
 use Rattle.level.specs.Layout.{pulseOf}
 use Rattle.level.specs.Rows.{IsLayout}
-use Rattle.level.specs.Sized.{Sized, sized}
+use Rattle.level.specs.Sized.{Sized}
+use Rattle.level.specs.SizedLaws.{sized}
 use Rattle.taps.specs.Taps.{receiverTap}
 use Rattle.track.specs.declared.Span.{Span}
 use Rattle.track.specs.Window.{window}

@@ -8,8 +8,10 @@ use lib.ListN.{length, drop}
 use lib.Seq.{drop-append-add, drop-drop}
 use lib.Ieee.{Float}
 use Rattle.complex.specs.declared.Complex.{Complex}
-use Rattle.complex.specs.Lists.{tabulate, length-tabulate, tabulate-ext}
-use Rattle.complex.specs.Pairs.{cget, cset, complexes, parts, length-parts, cfilled, cfilled-none, cfilled-length, cfilled-step, cfilled-at}
+use Rattle.complex.specs.Lists.{tabulate}
+use Rattle.complex.specs.ListLaws.{length-tabulate, tabulate-ext}
+use Rattle.complex.specs.Pairs.{cget, cset, complexes, parts, cfilled}
+use Rattle.complex.specs.PairLaws.{length-parts, cfilled-none, cfilled-length, cfilled-step, cfilled-at}
 use Rattle.track.specs.Window.{window}
 use Rattle.filter.specs.declared.Four.{Four}
 use Rattle.filter.specs.Carrier.{fourOf}

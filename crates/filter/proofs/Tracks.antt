@@ -6,10 +6,12 @@ use native.Mathlib.Omega.{arith}
 use native.Mathlib.Nat.{zero-mul}
 use lib.Ieee.{Float}
 use Rattle.complex.specs.declared.Complex.{Complex}
-use Rattle.complex.specs.Pairs.{cget, complexes, cfilled, cfilled-at}
+use Rattle.complex.specs.Pairs.{cget, complexes, cfilled}
+use Rattle.complex.specs.PairLaws.{cfilled-at}
 use Rattle.level.specs.declared.Layout.{Layout}
 use Rattle.level.specs.Lengths.{carrierHz}
-use Rattle.level.specs.Sized.{Sized, sized, carrier-most}
+use Rattle.level.specs.Sized.{Sized}
+use Rattle.level.specs.SizedLaws.{sized, carrier-most}
 use Rattle.track.specs.declared.Span.{Span}
 use Rattle.track.specs.Window.{window}
 use Rattle.track.specs.Track.{Track, valueAt, append}

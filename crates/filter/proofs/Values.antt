@@ -10,8 +10,9 @@ use lib.Dec.{leb}
 use lib.Ieee.{Float}
 use Rattle.complex.specs.declared.Complex.{Complex}
 use Rattle.complex.specs.Arithmetic.{czero, cmul, cconj, cscale, cpow}
-use Rattle.complex.specs.Sums.{sum-ext}
-use Rattle.complex.specs.Pairs.{cget, cfilled, cfilled-at}
+use Rattle.complex.specs.SumLaws.{sum-ext}
+use Rattle.complex.specs.Pairs.{cget, cfilled}
+use Rattle.complex.specs.PairLaws.{cfilled-at}
 use Rattle.root.specs.Unit.{unitOf}
 use Rattle.level.specs.declared.Layout.{Layout}
 use Rattle.level.specs.Lengths.{carrierHz}

@@ -1,4 +1,4 @@
--- Rust's `x.max(c)` for a c that is no NaN and not −0, and the reciprocal of what is bounded below. Assumes nothing.
+-- The maximum, for a c that is no NaN and not −0, and the reciprocal of what is bounded below. Assumes nothing.
 use mathlib.Core.Path.{_≡_, refl, sym, ap, _∙_}
 use Prim.Native.Nat.{ℕ, zero, suc, _*_, _^_, _≤_, _<_}
 use native.Mathlib.Nat.{le-refl, le-trans, le-of-eq, le-of-mul-le-mul-right, zero-lt-suc, zero-mul, mul-zero, mul-one, one-mul, mul-comm, mul-assoc, mul-le-mul-left, mul-le-mul-right}
@@ -10,13 +10,10 @@ use lib.Ieee.{Float, nan, inf, fin, Format, emax, up, down, round, div, lt, eq, 
 use lib.Ieee.Fits.{down-pos}
 use lib.Ieee.Positive.{num, den, den-pos}
 use Rattle.laws.specs.Order.{or-left}
-use Rattle.laws.specs.Sign.{Signed, round-signed}
-use Rattle.laws.specs.Plain.{plain, plain-signed, le-cross, cross-le}
+use Rattle.laws.specs.Sign.{round-signed}
+use Rattle.laws.specs.Floats.{Signed, maxf, plain}
+use Rattle.laws.specs.Plain.{plain-signed, le-cross, cross-le}
 use Rattle.laws.specs.Size.{round-within, within-plain}
-
--- x where it is above c, else c: so c where x is a NaN
-abbrev pub maxf : Float → Float → Float
-maxf x c = cond (lt c x) x c
 
 above-plain : (c x : Float) → T (plain c) → T (lt c x) → Signed false x
 unfolding lt

@@ -9,10 +9,11 @@ use lib.Dec.{T, ltb, eqb, ltb→lt, lt→ltb, eqb→eq}
 use lib.Ieee.{Float, nan, inf, fin, Format, up, down, unlike, round, neg, sum, add, sub, mul, div, lt, le, fits}
 use lib.Ieee.Scale.{finite, round-same}
 use lib.Ieee.Positive.{num, den, den-pos, positive, first-pos}
-use Rattle.laws.specs.Sign.{Signed, signOf, round-signed}
-use Rattle.laws.specs.Plain.{plain, le-cross, finite-plain}
+use Rattle.laws.specs.Sign.{round-signed}
+use Rattle.laws.specs.Floats.{Signed, signOf, plain}
+use Rattle.laws.specs.Plain.{le-cross, finite-plain}
 use Rattle.laws.specs.Size.{round-upper, round-lower}
-use Rattle.laws.specs.Rounding.{round-own, round-self, round-zero}
+use Rattle.laws.specs.Rounding.{round-own, round-self, round-zero, zero-not-above}
 
 -- ---- one rounding of a fraction
 pub add-is : (f : Format) (x y : Float) → T (plain x) → T (plain y) → add f x y ≡ round f false (num x * den y + num y * den x) (den x * den y)
@@ -66,11 +67,8 @@ div-is f (fin s m e) (inf t) p q h = absurd q
 div-is f (fin s m e) (fin true n d) p q h = absurd q
 div-is f (fin s m e) (fin false n d) p q h = go (eqb n 0) (eqb→eq n 0) s
   where
-    none : (a : ℕ) → a ≡ 0 → 0 < a → ⊥
-    none a e h = omega arith
-
     go : (b : Bool) → (T b → n ≡ 0) → (s : Bool) → cond b (cond (eqb m 0) nan (inf (unlike s false))) (round f (unlike s false) (m * up e * down d) (n * up d * down e)) ≡ round f s (m * up e * down d) (n * up d * down e)
-    go true k s = absurd (none (n * up d) (ap (λ (x : ℕ). x * up d) (k tt) ∙ zero-mul (up d)) h)
+    go true k s = absurd (zero-not-above (n * up d) (ap (λ (x : ℕ). x * up d) (k tt) ∙ zero-mul (up d)) h)
     go false k true = refl
     go false k false = refl
 

@@ -11,13 +11,7 @@ use lib.Ieee.Order.{le-of-values}
 use lib.Ieee.Scale.{finite}
 use lib.Ieee.Positive.{num, den, den-pos, positive, first-pos}
 use Rattle.laws.specs.Order.{or-elim}
-use Rattle.laws.specs.Sign.{Signed}
-
--- finite with a clear sign: not negative, +0 included, −0 left out
-abbrev pub plain : Float → Bool
-plain nan = false
-plain (inf s) = false
-plain (fin s m e) = not s
+use Rattle.laws.specs.Floats.{Signed, plain}
 
 pub plain-finite : (x : Float) → T (plain x) → T (finite x)
 plain-finite nan p = p

@@ -13,7 +13,8 @@ use lib.Ieee.Scale.{finite}
 use lib.Ieee.Positive.{num, den, through, positive}
 use Rattle.laws.specs.Tests.{inRange, inSize}
 use Rattle.laws.specs.Order.{or-elim, or-left, or-right}
-use Rattle.laws.specs.Size.{Within, within-finite, neg-within}
+use Rattle.laws.specs.Size.{within-finite, neg-within}
+use Rattle.laws.specs.Floats.{Within}
 
 -- ---- ±a ≤ ±b: a bound above for what is not negative, and one below for what is negative
 size-above : (t : Bool) (a b : ℕ) → T (below false a t b || level false a t b) → a ≤ b

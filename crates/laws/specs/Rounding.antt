@@ -17,7 +17,8 @@ use lib.Ieee.Nearest.{closest, nearest-ge, div-same}
 use lib.Ieee.Order.{drop, kept}
 use lib.Ieee.Scale.{grid, round-val, round-under, round-same}
 use lib.Ieee.Positive.{num, den, den-pos}
-use Rattle.laws.specs.Plain.{plain, plain-finite, le-cross, value-plain}
+use Rattle.laws.specs.Plain.{plain-finite, le-cross, value-plain}
+use Rattle.laws.specs.Floats.{plain}
 
 -- ---- what `fits` says of a finite value that is not zero
 pub record Fitting (f : Format) (m : ℕ) (e : ℤ) : Type 0 where
@@ -39,14 +40,14 @@ fitting f s m e t =
       under = ltb→lt (suc m * up e) (2 ^ suc (emax f) * down e) (and-r (a && b && c) d t);
     }
 
+pub zero-not-above : (a : ℕ) → a ≡ 0 → 0 < a → ⊥
+zero-not-above a e h = omega arith
+
 -- what is not zero is at least the format's smallest value
 pub smallest : (f : Format) (x : Float) → T (plain x) → T (fits f x) → 0 < num x → den x ≤ num x * 2 ^ low f
 smallest f nan p t h = absurd p
 smallest f (inf s) p t h = absurd p
-smallest f (fin s zero e) p t h = absurd (none (0 * up e) (zero-mul (up e)) h)
-  where
-    none : (a : ℕ) → a ≡ 0 → 0 < a → ⊥
-    none a e h = omega arith
+smallest f (fin s zero e) p t h = absurd (zero-not-above (0 * up e) (zero-mul (up e)) h)
 smallest f (fin s (suc m) e) p t h =
     le-trans (fitting f s m e t .fine) (le-trans (le-of-eq (sym (one-mul (2 ^ low f)))) (mul-le-mul-right (2 ^ low f) h))
 

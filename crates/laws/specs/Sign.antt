@@ -6,18 +6,7 @@ use lib.Dec.{T, ltb, eqb}
 use lib.Ieee.{Float, nan, inf, fin, Format, prec, emax, low, up, down, unlike, odd, units, round, neg, mul, isNan}
 use lib.Ieee.Fits.{round-is}
 use lib.Ieee.Exact.{HasValue, odd-sign}
-
--- x is no NaN and has the sign s, where `true` is minus
-abbrev pub Signed : Bool → Float → Type 0
-Signed s nan = ⊥
-Signed s (inf t) = t ≡ s
-Signed s (fin t m e) = t ≡ s
-
--- the sign; a NaN counts as one with a clear sign
-abbrev pub signOf : Float → Bool
-signOf nan = false
-signOf (inf s) = s
-signOf (fin s m e) = s
+use Rattle.laws.specs.Floats.{Signed, signOf}
 
 pub signed-of : (s : Bool) (x : Float) → Signed s x → signOf x ≡ s
 signed-of s nan h = absurd h

@@ -8,7 +8,8 @@ use lib.Dec.{T}
 use lib.Ieee.{Float, nan, inf, fin, Format, binary32, binary64, prec, up, down, size, low, ones, hid, top, fits, toBits}
 use lib.Ieee.Bits.{toBits-lt}
 use Rattle.laws.specs.Tests.{signBit}
-use Rattle.laws.specs.Sign.{Signed, signOf, signed-of}
+use Rattle.laws.specs.Sign.{signed-of}
+use Rattle.laws.specs.Floats.{Signed, signOf}
 
 top-bit : (s : Bool) (t x : ℕ) → t + x < 2 * t → (cond s t 0 + x) / t ≡ cond s 1 0
 top-bit true t x h = div-eq-of-lt-le t (omega arith) (omega arith)

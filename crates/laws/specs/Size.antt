@@ -12,14 +12,9 @@ use lib.Ieee.Exact.{HasValue, round-exact}
 use lib.Ieee.Order.{round-mono}
 use lib.Ieee.Scale.{finite}
 use lib.Ieee.Positive.{num, den, den-pos, through}
-use Rattle.laws.specs.Sign.{Signed, round-signed, round-neg}
-use Rattle.laws.specs.Plain.{plain, le-cross, value-plain, plain-below}
-
--- x is finite, and at most 2 ^ k in size
-abbrev pub Within : Float → ℕ → Type 0
-Within nan k = ⊥
-Within (inf s) k = ⊥
-Within (fin s m e) k = m * up e ≤ 2 ^ k * down e
+use Rattle.laws.specs.Sign.{round-signed, round-neg}
+use Rattle.laws.specs.Floats.{Signed, Within, plain}
+use Rattle.laws.specs.Plain.{le-cross, value-plain, plain-below}
 
 pub within-finite : (x : Float) (k : ℕ) → Within x k → T (finite x)
 within-finite nan k p = p

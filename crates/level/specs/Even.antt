@@ -1,9 +1,8 @@
--- A level whose carriers are in arithmetic progression, as the code's rows give it.
+-- A row whose carriers are in arithmetic progression, as the code gives it. Definitions only.
 use Prim.Native.Nat.{ℕ, _+_, _-_, _*_, _≤_, _<_}
 use mathlib.Core.Path.{_≡_}
 use mathlib.Core.List.{List}
-use lib.ListN.{length, getD}
-use Rattle.complex.specs.Lists.{tabulate, length-tabulate, getD-tabulate}
+use Rattle.complex.specs.Lists.{tabulate}
 use Rattle.level.specs.Level.{Level, psk}
 use Rattle.level.specs.Layout.{tapCount, pulseOf}
 
@@ -25,12 +24,3 @@ pub record Sound (spf bps markers nc taps : ℕ) : Type 0 where
   pub payload : nc * (spf - 2 - markers) * bps < 10000
   pub tapped : 1 ≤ taps
   pub pulse : tapCount (pulseOf taps) ≡ taps
-
-module _ (first spacing nc : ℕ) where
-  pub progression-length : length (progression first spacing nc) ≡ nc
-  unfolding progression
-  progression-length = length-tabulate (λ c. first + c * spacing) nc
-
-  pub progression-at : (c : ℕ) → c < nc → getD (progression first spacing nc) c 0 ≡ first + c * spacing
-  unfolding progression
-  progression-at c h = getD-tabulate (λ c. first + c * spacing) nc c 0 h

@@ -1,17 +1,8 @@
--- How many frames a sending has. Assumes nothing.
-use Prim.Native.Nat.{ℕ, _≤_}
-use mathlib.Core.Path.{_≡_}
-use mathlib.Core.Bool.{Bool, false, _||_}
+-- How many frames a sending has. Definitions only.
+use Prim.Native.Nat.{ℕ}
+use mathlib.Core.Bool.{Bool, _||_}
 use lib.Dec.{ltb}
-use borrow.Author.Tests.{ltb-false}
-use Rattle.refusal.specs.Clear.{neither}
 
 -- 8: "frames not 1 to 4"
 unfoldable pub wrongFrames : ℕ → Bool
 wrongFrames frames = ltb frames 1 || ltb 4 frames
-
-pub frames-of : (frames : ℕ) → wrongFrames frames ≡ false → (1 ≤ frames) × (frames ≤ 4)
-unfolding wrongFrames
-frames-of frames h =
-    let s = neither (ltb frames 1) (ltb 4 frames) h in
-    (ltb-false _ _ (s .0), ltb-false _ _ (s .1))

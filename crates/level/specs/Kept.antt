@@ -30,5 +30,5 @@ unfoldable pub keptCells : Layout → ℕ
 keptCells l = max 1 (toUnsigned 64 (part l))
 
 -- for the fifteen layouts that is 1500 div nc, or all that there are
-unfoldable pub KeptCount : Type 0
+abbrev pub KeptCount : Type 0
 KeptCount = (l : Layout) → IsLayout l → keptCells l ≡ min (cells l) (1500 / l .nc)

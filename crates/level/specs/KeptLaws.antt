@@ -9,7 +9,8 @@ use Rattle.level.specs.declared.Layout.{Layout}
 use Rattle.level.specs.Layout.{layoutOf}
 use Rattle.level.specs.Lengths.{cells, allCells}
 use Rattle.level.specs.Kept.{share, part, keptCells, KeptCount}
-use Rattle.level.specs.Rows.{IsLayout, layout-rule, equal}
+use Rattle.level.specs.Rows.{IsLayout}
+use Rattle.level.specs.RowLaws.{layout-rule, equal}
 
 -- -1 < len × share < 2 ^ 64
 pub part-fits : (l : Layout) → IsLayout l → T (Ieee.lt (fin true 1 (pos 0)) (part l)) × T (Ieee.lt (part l) (fin false 1 (pos 64)))
@@ -20,5 +21,5 @@ part-fits l i =
     (layout-rule l i low tt, layout-rule l i high tt)
 
 pub kept-are : KeptCount
-unfolding KeptCount layoutOf cells allCells share keptCells Ieee.div Ieee.lt Ieee.mul Ieee.ofInt Ieee.toUnsigned
+unfolding layoutOf cells allCells share keptCells Ieee.div Ieee.lt Ieee.mul Ieee.ofInt Ieee.toUnsigned
 kept-are l i = equal l i keptCells (λ x. min (cells x) (1500 / x .nc)) tt

@@ -8,7 +8,7 @@ use lib.Ieee.{Float}
 use Rattle.complex.specs.declared.Complex.{Complex}
 use Rattle.level.specs.declared.Layout.{Layout}
 use Rattle.level.specs.Rows.{IsLayout}
-use Rattle.level.specs.Sized.{sized}
+use Rattle.level.specs.SizedLaws.{sized}
 use Rattle.track.specs.declared.Span.{Span}
 use Rattle.chi.specs.declared.Sum.{Sum}
 use Rattle.chi.specs.declared.Sum.the-variants.{Pilot, Data}

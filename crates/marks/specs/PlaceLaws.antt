@@ -10,7 +10,8 @@ use Rattle.level.specs.declared.Layout.{Layout}
 use Rattle.dat.specs.Cells as dat
 use Rattle.dat.specs.Cells.{cellAt, byCarrier}
 use Rattle.dat.specs.Counts.{byCarrier-count}
-use Rattle.dat.specs.Accepted.{Markers, row-in}
+use Rattle.dat.specs.Accepted.{Markers}
+use Rattle.dat.specs.AcceptedLaws.{row-in}
 use Rattle.chi.specs.Each.{Each, each-append, each-map, each-at}
 use Rattle.chi.specs.Cells.{InRow, InFrame}
 use Rattle.eq.specs.Steps.{Preceded}

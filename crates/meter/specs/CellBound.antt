@@ -9,7 +9,8 @@ use borrow.Author.Tests.{eq-eqb, eqb-true, not-false}
 use lib.Dec.{eqb}
 use lib.ListN.{getD}
 use Rattle.constellation.specs.Label.{labelAt}
-use Rattle.constellation.specs.Bits.{Bits, label-same}
+use Rattle.constellation.specs.Bits.{Bits}
+use Rattle.constellation.specs.BitLaws.{label-same}
 use Rattle.meter.specs.Meter.{count, differs, differing}
 use Rattle.meter.specs.MeterLaws.{count-most}
 

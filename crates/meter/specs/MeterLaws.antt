@@ -8,7 +8,8 @@ use native.Mathlib.Omega.{arith}
 use lib.Dec.{ltb, eqb}
 use lib.ListN.{length, getD}
 use borrow.Author.Tests.{eqb-true, eq-eqb, ne-eqb, not-false, ltb-false}
-use Rattle.refusal.specs.Any.{any, any-below}
+use Rattle.refusal.specs.Any.{any}
+use Rattle.refusal.specs.AnyLaws.{any-below}
 use Rattle.meter.specs.Meter.{wrongBits, count, differs, differing}
 
 -- ---- counting

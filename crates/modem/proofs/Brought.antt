@@ -9,7 +9,7 @@ use lib.Seq.{getD-append-add}
 use borrow.Author.Tests.{lt-ltb, le-ltb}
 use Rattle.complex.specs.declared.Complex.{Complex}
 use Rattle.complex.specs.Arithmetic.{czero}
-use Rattle.complex.specs.Lists.{tabulate-getD, tabulate-ext}
+use Rattle.complex.specs.ListLaws.{tabulate-getD, tabulate-ext}
 use Rattle.track.specs.Window.{window}
 use Rattle.rx.specs.Receiver.{Feed}
 use Rattle.modem.specs.Ideal.{joined, sampleRow, broughtBy}

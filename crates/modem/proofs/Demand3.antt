@@ -16,8 +16,9 @@ use Rattle.complex.specs.Pairs.{cget}
 use Rattle.level.specs.declared.Layout.{Layout}
 use Rattle.level.specs.Lengths.{memoryLength}
 use Rattle.level.specs.Layout.{chosen}
-use Rattle.level.specs.Rows.{IsLayout, is-layout, same-layout}
-use Rattle.dat.specs.Accepted.{row-in}
+use Rattle.level.specs.Rows.{IsLayout}
+use Rattle.level.specs.RowLaws.{is-layout, same-layout}
+use Rattle.dat.specs.AcceptedLaws.{row-in}
 use Rattle.psk.specs.declared.Sent.the-variants as sent
 use Rattle.psk.specs.Symbols.{Sending}
 use Rattle.psk.specs.Send.{Modulated}

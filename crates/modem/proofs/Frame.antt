@@ -13,19 +13,22 @@ use lib.Ieee.{nan}
 use lib.Ieee.Positive.{positive}
 use borrow.Author.Tests.{eqb-true, eqb-false, eq-eqb, ne-eqb, le-ltb}
 use Rattle.refusal.specs.Outcome.{answered}
-use Rattle.refusal.specs.Any.{any-false}
+use Rattle.refusal.specs.AnyLaws.{any-false}
 use Rattle.complex.specs.declared.Complex.{Complex}
-use Rattle.complex.specs.Lists.{tabulate, length-tabulate, getD-tabulate}
+use Rattle.complex.specs.Lists.{tabulate}
+use Rattle.complex.specs.ListLaws.{length-tabulate, getD-tabulate}
 use Rattle.laws.specs.Tests.{signBit}
 use Rattle.constellation.specs.Alphabet.{pointOf}
 use Rattle.constellation.specs.Points.{sameNumber}
 use Rattle.constellation.specs.Label.{labelAt, labelBit}
-use Rattle.constellation.specs.Bits.{Bits, label-below, label-bit, label-ext, bits-equal}
+use Rattle.constellation.specs.Bits.{Bits}
+use Rattle.constellation.specs.BitLaws.{label-below, label-bit, label-ext, bits-equal}
 use Rattle.level.specs.declared.Layout.{Layout}
 use Rattle.level.specs.Lengths.{cells}
-use Rattle.level.specs.Sized.{Sized, sized}
+use Rattle.level.specs.Sized.{Sized}
+use Rattle.level.specs.SizedLaws.{sized}
 use Rattle.dat.specs.Cells.{Cell, cellAt}
-use Rattle.dat.specs.Accepted.{row-in}
+use Rattle.dat.specs.AcceptedLaws.{row-in}
 use Rattle.demap.specs.SignLaw.{Near, Variance}
 use Rattle.demap.specs.PskLaws.{read-says, read-by}
 use Rattle.psk.specs.Symbols.{Sending, cellNumber, bitPlace, cellLabel}

@@ -8,7 +8,8 @@ use native.Mathlib.Nat.{add-zero}
 use lib.Ieee.{Float, isNan, le}
 use Rattle.laws.specs.Order.{le-number}
 use Rattle.complex.specs.declared.Complex.{Complex}
-use Rattle.complex.specs.Lists.{tabulate, tabulate-ext}
+use Rattle.complex.specs.Lists.{tabulate}
+use Rattle.complex.specs.ListLaws.{tabulate-ext}
 use Rattle.complex.specs.Pairs.{complexes}
 use Rattle.level.specs.declared.Layout.{Layout}
 use Rattle.level.specs.Rows.{IsLayout}

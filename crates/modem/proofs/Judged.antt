@@ -13,11 +13,12 @@ use Rattle.refusal.specs.declared.Fault.{Fault}
 use Rattle.refusal.specs.declared.Fault.the-variants.{Clear, Met}
 use Rattle.refusal.specs.Outcome.{Outcome, refused, answered, andThen, orElse, judged, firstFault}
 use Rattle.refusal.specs.Clear.{neither, clear-first, clear-both}
-use Rattle.complex.specs.Pairs.{complexes-length}
+use Rattle.complex.specs.PairLaws.{complexes-length}
 use Rattle.level.specs.declared.Layout.{Layout}
 use Rattle.level.specs.Lengths.{memoryLength}
 use Rattle.level.specs.Layout.{chosen}
-use Rattle.level.specs.Rows.{IsLayout, is-layout}
+use Rattle.level.specs.Rows.{IsLayout}
+use Rattle.level.specs.RowLaws.{is-layout}
 use Rattle.dat.specs.Tables.{tableFault}
 use Rattle.hold.specs.History.{Detection}
 use Rattle.rx.specs.declared.State.{State}

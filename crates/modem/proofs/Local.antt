@@ -9,7 +9,7 @@ use lib.Ieee.{Float}
 use borrow.Author.Tests.{leb-true, leb-false, le-leb, lt-leb}
 use Rattle.complex.specs.declared.Complex.{Complex}
 use Rattle.complex.specs.Arithmetic.{czero, cmul, cconj}
-use Rattle.complex.specs.Sums.{sum-ext}
+use Rattle.complex.specs.SumLaws.{sum-ext}
 use Rattle.root.specs.Unit.{unitOf}
 use Rattle.level.specs.declared.Layout.{Layout}
 use Rattle.level.specs.Sized.{Sized}

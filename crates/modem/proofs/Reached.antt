@@ -8,7 +8,7 @@ use lib.Ieee.{Float}
 use Rattle.complex.specs.declared.Complex.{Complex}
 use Rattle.level.specs.declared.Layout.{Layout}
 use Rattle.level.specs.Rows.{IsLayout}
-use Rattle.level.specs.Sized.{sized}
+use Rattle.level.specs.SizedLaws.{sized}
 use Rattle.track.specs.Window.{window}
 use Rattle.track.specs.Track.{trimmedBase}
 use Rattle.filter.specs.Filter.{filteredEnd}

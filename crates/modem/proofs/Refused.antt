@@ -14,7 +14,8 @@ use Rattle.refusal.specs.Outcome.{Outcome, refused, answered, andThen, firstOf,
 use Rattle.level.specs.declared.Layout.{Layout}
 use Rattle.level.specs.Lengths.{memoryLength}
 use Rattle.level.specs.Layout.{chosen}
-use Rattle.level.specs.Rows.{IsLayout, is-layout}
+use Rattle.level.specs.Rows.{IsLayout}
+use Rattle.level.specs.RowLaws.{is-layout}
 use Rattle.dat.specs.Tables.{tableFault}
 use Rattle.rx.specs.declared.State.{State}
 use Rattle.rx.specs.declared.FeedAnswer.{FeedAnswer}

@@ -5,10 +5,11 @@ use mathlib.Core.List.{List}
 use native.Mathlib.Omega.{arith}
 use lib.Ieee.{Float}
 use Rattle.refusal.specs.declared.Position.{Position}
-use Rattle.complex.specs.Pairs.{complexes-length}
+use Rattle.complex.specs.PairLaws.{complexes-length}
 use Rattle.level.specs.declared.Layout.{Layout}
 use Rattle.level.specs.Rows.{IsLayout}
-use Rattle.level.specs.Sized.{Sized, sized}
+use Rattle.level.specs.Sized.{Sized}
+use Rattle.level.specs.SizedLaws.{sized}
 use Rattle.track.specs.declared.Span.{Span}
 use Rattle.track.specs.Memory.{partLength, filteredPart, stepPart, powerPart, trackIn}
 use Rattle.hold.specs.declared.Hold.{Hold}

@@ -8,15 +8,17 @@ use lib.Dec.{T}
 use lib.Ieee.{nan}
 use lib.Ieee.Positive.{positive}
 use Rattle.complex.specs.declared.Complex.{Complex}
-use Rattle.complex.specs.Lists.{getD-tabulate}
+use Rattle.complex.specs.ListLaws.{getD-tabulate}
 use Rattle.laws.specs.Tests.{signBit}
 use Rattle.constellation.specs.Label.{labelBit}
 use Rattle.level.specs.declared.Layout.{Layout}
 use Rattle.level.specs.Lengths.{cells}
 use Rattle.level.specs.Rows.{IsLayout}
-use Rattle.level.specs.Sized.{Sized, sized}
+use Rattle.level.specs.Sized.{Sized}
+use Rattle.level.specs.SizedLaws.{sized}
 use Rattle.dat.specs.Cells.{cellAt}
-use Rattle.dat.specs.Accepted.{Markers, markers-of, row-in}
+use Rattle.dat.specs.Accepted.{Markers}
+use Rattle.dat.specs.AcceptedLaws.{markers-of, row-in}
 use Rattle.demap.specs.SignLaw.{Near, Variance}
 use Rattle.demap.specs.SoftLaws.{variance-floored}
 use Rattle.demap.specs.GainLaws.{gain-near}

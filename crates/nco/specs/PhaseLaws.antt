@@ -6,7 +6,8 @@ use native.Mathlib.Nat.{add-zero, add-suc, le-refl}
 use native.Mathlib.Numerals.{add-one}
 use lib.ListN.{length, getD, set}
 use lib.Ieee.{Float, nan}
-use Rattle.complex.specs.Lists.{tabulate, filled, getD-tabulate, tabulate-ext, filled-step, filled-all}
+use Rattle.complex.specs.Lists.{tabulate, filled}
+use Rattle.complex.specs.ListLaws.{getD-tabulate, tabulate-ext, filled-step, filled-all}
 use Rattle.level.specs.declared.Layout.{Layout}
 use Rattle.nco.specs.Rows.{filled-rest}
 use Rattle.nco.specs.Phase.{phaseNext, phaseAfter, carrierStep, carrierPhase, phasesAfter}

@@ -15,14 +15,15 @@ use lib.Ieee.Fits.{down-pos, and-i}
 use lib.Ieee.Scale.{finite}
 use lib.Ieee.Positive.{num, den, den-pos}
 use Rattle.laws.specs.Sign.{round-signed}
-use Rattle.laws.specs.Plain.{plain, plain-finite, le-cross, cross-le}
+use Rattle.laws.specs.Plain.{plain-finite, le-cross, cross-le}
+use Rattle.laws.specs.Floats.{plain, Within}
 use Rattle.laws.specs.Order.{lt-le, not-lt-le}
-use Rattle.laws.specs.Size.{Within, within-plain, round-within}
+use Rattle.laws.specs.Size.{within-plain, round-within}
 use Rattle.laws.specs.Operations.{add-is, sub-is}
 use Rattle.laws.specs.Ranges.{in-range-finite}
 use Rattle.laws.specs.Tests.{inRange}
-use Rattle.refusal.specs.Any.{any-false, any-below}
-use Rattle.complex.specs.Lists.{getD-tabulate}
+use Rattle.refusal.specs.AnyLaws.{any-false, any-below}
+use Rattle.complex.specs.ListLaws.{getD-tabulate}
 use Rattle.level.specs.declared.Layout.{Layout}
 use Rattle.level.specs.Lengths.{carrierHz}
 use Rattle.level.specs.Tested.{every, and-left, and-right}

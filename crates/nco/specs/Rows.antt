@@ -8,7 +8,8 @@ use native.Mathlib.Nat.{eq-or-lt-of-le, le-of-suc-le-suc, suc-mul, mul-le-mul-ri
 use native.Mathlib.Numerals.{add-one}
 use lib.ListN.{length, getD, take, drop, length-append, length-take, length-drop, List·getD-append}
 use lib.Seq.{take-at, drop-at, drop-drop, drop-length, getD-append-add, getD-drop}
-use Rattle.complex.specs.Lists.{tabulate, filled, length-tabulate, getD-tabulate}
+use Rattle.complex.specs.Lists.{tabulate, filled}
+use Rattle.complex.specs.ListLaws.{length-tabulate, getD-tabulate}
 
 -- f 0 0, .. f 0 (width - 1), f 1 0, .. up to f (n - 1) (width - 1)
 unfoldable pub rows {ℓ} : {A : Type ℓ} → (ℕ → ℕ → A) → ℕ → ℕ → List A

@@ -11,16 +11,20 @@ use borrow.Author.Tests.{leb-false, le-leb, eqb-true, eq-eqb, ne-eqb, not-false}
 use Rattle.refusal.specs.declared.Fault.{Fault}
 use Rattle.refusal.specs.declared.Fault.the-variants.{Clear, Met}
 use Rattle.refusal.specs.Outcome.{Outcome, refused, answered, andThen, judged}
-use Rattle.refusal.specs.Any.{any, any-at, any-below}
+use Rattle.refusal.specs.Any.{any}
+use Rattle.refusal.specs.AnyLaws.{any-at, any-below}
 use Rattle.refusal.specs.Clear.{neither, clear-first, clear-both}
 use Rattle.level.specs.declared.Layout.{Layout}
 use Rattle.level.specs.Lengths.{rowLength}
 use Rattle.level.specs.Layout.{chosen}
-use Rattle.level.specs.Rows.{IsLayout, is-layout}
-use Rattle.level.specs.Sized.{sized}
+use Rattle.level.specs.Rows.{IsLayout}
+use Rattle.level.specs.RowLaws.{is-layout}
+use Rattle.level.specs.SizedLaws.{sized}
 use Rattle.dat.specs.Tables.{marked, tableFault}
-use Rattle.level.specs.Frames.{wrongFrames, frames-of}
-use Rattle.dat.specs.Accepted.{Markers, Phasors, tables-of}
+use Rattle.level.specs.Frames.{wrongFrames}
+use Rattle.level.specs.FramesLaws.{frames-of}
+use Rattle.dat.specs.Accepted.{Markers, Phasors}
+use Rattle.dat.specs.AcceptedLaws.{tables-of}
 use Rattle.psk.specs.Symbols.{Sending, rowsOf}
 use Rattle.psk.specs.Send.{wrongBytes, wrongPayload, wrongDraws, wrongRows, senderFault, sendFault, sentIn, modulated}
 

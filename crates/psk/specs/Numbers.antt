@@ -14,7 +14,8 @@ use Rattle.level.specs.Lengths.{cells}
 use Rattle.dat.specs.Tables.{marked}
 use Rattle.dat.specs.Cells.{symbolsWhere, cellsOf, Cell, cellAt, byCarrier}
 use Rattle.dat.specs.Counts.{one, count-step, count-le, byCarrier-count, cells-count}
-use Rattle.dat.specs.Accepted.{Markers, row-in}
+use Rattle.dat.specs.Accepted.{Markers}
+use Rattle.dat.specs.AcceptedLaws.{row-in}
 use Rattle.psk.specs.Symbols.{IsCell, cellsBefore, cellNumber}
 
 -- ---- the symbols of which f holds

@@ -8,15 +8,17 @@ use native.Mathlib.Omega.{arith}
 use lib.ListN.{length}
 use lib.Ieee.{Float}
 use Rattle.constellation.specs.Label.{labelAt}
-use Rattle.constellation.specs.Bits.{label-below}
+use Rattle.constellation.specs.BitLaws.{label-below}
 use Rattle.level.specs.declared.Layout.{Layout}
 use Rattle.level.specs.Lengths.{cells, rowLength}
 use Rattle.level.specs.Rows.{IsLayout}
-use Rattle.level.specs.Sized.{Sized, sized, row-most}
+use Rattle.level.specs.Sized.{Sized}
+use Rattle.level.specs.SizedLaws.{sized, row-most}
 use Rattle.dat.specs.Tables.{marked}
 use Rattle.dat.specs.Cells.{cellsOf}
 use Rattle.dat.specs.Counts.{one, count-next, count-le, cells-count}
-use Rattle.dat.specs.Accepted.{Markers, rows-small, row-in}
+use Rattle.dat.specs.Accepted.{Markers}
+use Rattle.dat.specs.AcceptedLaws.{rows-small, row-in}
 use Rattle.psk.specs.Symbols.{Sending, cellsBefore, cellNumber, bitPlace}
 use Rattle.psk.specs.Accepted.{Draws, Ready, Drawn, LeadReady, FrameReady, CellReady}
 

@@ -9,19 +9,21 @@ use lib.Dec.{T, ltb, lit≤}
 use lib.ListN.{length, getD}
 use lib.Ieee.{Float, nan, binary64, ofBits}
 use borrow.Author.Tests.{ltb-true, ltb-false}
-use Rattle.refusal.specs.Any.{any-below}
+use Rattle.refusal.specs.AnyLaws.{any-below}
 use Rattle.laws.specs.Tests.{inSize}
-use Rattle.laws.specs.Size.{Within}
+use Rattle.laws.specs.Floats.{Within}
 use Rattle.laws.specs.Ranges.{within-in-size}
 use Rattle.complex.specs.declared.Complex.{Complex}
 use Rattle.complex.specs.Arithmetic.{cx, czero}
-use Rattle.complex.specs.Lists.{tabulate, length-tabulate, getD-tabulate}
-use Rattle.complex.specs.Pairs.{cget, parts, length-parts}
+use Rattle.complex.specs.Lists.{tabulate}
+use Rattle.complex.specs.ListLaws.{length-tabulate, getD-tabulate}
+use Rattle.complex.specs.Pairs.{cget, parts}
+use Rattle.complex.specs.PairLaws.{length-parts}
 use Rattle.level.specs.declared.Layout.{Layout}
 use Rattle.level.specs.Lengths.{rowLength}
-use Rattle.level.specs.Sized.{sized}
+use Rattle.level.specs.SizedLaws.{sized}
 use Rattle.dat.specs.Tables.{badPhasor, wrongSize}
-use Rattle.dat.specs.Accepted.{row-in}
+use Rattle.dat.specs.AcceptedLaws.{row-in}
 use Rattle.psk.specs.Symbols.{Sending, leadPoint, leadSymbol, frameSymbol, inRows, rowSymbol, rowsOf}
 use Rattle.psk.specs.Turn.{point-turn}
 use Rattle.psk.specs.SentStep.{running-turn}

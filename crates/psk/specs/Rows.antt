@@ -8,10 +8,11 @@ use lib.Ieee.{Float}
 use borrow.Author.Tests.{lt-ltb, le-ltb}
 use Rattle.complex.specs.declared.Complex.{Complex}
 use Rattle.complex.specs.Arithmetic.{czero}
-use Rattle.complex.specs.Pairs.{cget, cset, parts-at}
+use Rattle.complex.specs.Pairs.{cget, cset}
+use Rattle.complex.specs.PairLaws.{parts-at}
 use Rattle.level.specs.declared.Layout.{Layout}
 use Rattle.level.specs.Lengths.{rowLength}
-use Rattle.dat.specs.Accepted.{row-in}
+use Rattle.dat.specs.AcceptedLaws.{row-in}
 use Rattle.psk.specs.Symbols.{Sending, leadSymbol, frameSymbol, inRows, rowSymbol, rowsOf}
 use Rattle.psk.specs.Written.{written, written-step, written-ext, written-join, written-all, in-row}
 

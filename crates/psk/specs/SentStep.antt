@@ -15,7 +15,7 @@ use Rattle.constellation.specs.Points.{sameNumber}
 use Rattle.constellation.specs.Label.{labelAt}
 use Rattle.level.specs.declared.Layout.{Layout}
 use Rattle.level.specs.Lengths.{cells, rowLength}
-use Rattle.level.specs.Sized.{sized}
+use Rattle.level.specs.SizedLaws.{sized}
 use Rattle.dat.specs.Tables.{marked}
 use Rattle.dat.specs.Cells.{Cell, cellAt}
 use Rattle.psk.specs.Symbols.{Sending, IsCell, referencePoint, bitPlace, cellLabel, runningPoint}

@@ -14,8 +14,9 @@ use borrow.Author.Tests.{leb-true, leb-false, not-false}
 use Rattle.refusal.specs.Clear.{neither}
 use Rattle.laws.specs.Tests.{inRange}
 use Rattle.laws.specs.Sign.{round-neg}
-use Rattle.laws.specs.Plain.{plain, plain-finite, le-cross}
-use Rattle.laws.specs.Size.{Within, round-upper, round-lower, round-within}
+use Rattle.laws.specs.Plain.{plain-finite, le-cross}
+use Rattle.laws.specs.Floats.{plain, Within}
+use Rattle.laws.specs.Size.{round-upper, round-lower, round-within}
 use Rattle.laws.specs.Operations.{square-is, add-finite, mul-finite, add-plain, add-comm, add-ge, square-plain}
 use Rattle.complex.specs.declared.Complex.{Complex}
 use Rattle.complex.specs.Arithmetic.{cx, cmul, cconj, cscale, normSqr}

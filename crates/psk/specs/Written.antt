@@ -9,8 +9,10 @@ use lib.ListN.{length, length-set, drop-of-length-le}
 use lib.Ieee.{Float, nan}
 use Rattle.complex.specs.declared.Complex.{Complex}
 use Rattle.complex.specs.Arithmetic.{cx}
-use Rattle.complex.specs.Lists.{tabulate, length-tabulate, getD-tabulate}
-use Rattle.complex.specs.Pairs.{cget, cset, parts, pairs-parts, length-parts, getD-pairs, cfilled, cfilled-none, cfilled-step}
+use Rattle.complex.specs.Lists.{tabulate}
+use Rattle.complex.specs.ListLaws.{length-tabulate, getD-tabulate}
+use Rattle.complex.specs.Pairs.{cget, cset, parts, cfilled}
+use Rattle.complex.specs.PairLaws.{pairs-parts, length-parts, getD-pairs, cfilled-none, cfilled-step}
 use Rattle.psk.specs.Symbols.{inRows}
 
 -- the list of parts with its n complex numbers from `at` on replaced by f 0, f 1, up to f (n - 1)

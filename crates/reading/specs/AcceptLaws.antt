@@ -7,7 +7,8 @@ use native.Mathlib.Omega.{arith}
 use lib.ListN.{length}
 use lib.Ieee.{Float}
 use Rattle.complex.specs.declared.Complex.{Complex}
-use Rattle.complex.specs.Pairs.{pairs, parts, pairs-parts}
+use Rattle.complex.specs.Pairs.{pairs, parts}
+use Rattle.complex.specs.PairLaws.{pairs-parts}
 use Rattle.level.specs.declared.Layout.{Layout}
 use Rattle.search.specs.Chi.{Tables}
 use Rattle.symbols.specs.Symbols.{symbolsAt}

@@ -17,9 +17,10 @@ use Rattle.laws.specs.Tests.{inRange}
 use Rattle.level.specs.declared.Layout.{Layout}
 use Rattle.level.specs.Lengths.{memoryLength}
 use Rattle.level.specs.Rows.{IsLayout}
-use Rattle.level.specs.Sized.{sized}
+use Rattle.level.specs.SizedLaws.{sized}
 use Rattle.dat.specs.Tables.{tableFault}
-use Rattle.dat.specs.Accepted.{Markers, Phasors, tables-of}
+use Rattle.dat.specs.Accepted.{Markers, Phasors}
+use Rattle.dat.specs.AcceptedLaws.{tables-of}
 use Rattle.search.specs.Chi.{Tables}
 use Rattle.search.specs.Search.{reach}
 use Rattle.search.specs.Fits.{Within}

@@ -11,8 +11,10 @@ use Rattle.refusal.specs.declared.Refusal.the-variants as no
 use Rattle.refusal.specs.Outcome.{refused, answered}
 use Rattle.complex.specs.declared.Complex.{Complex}
 use Rattle.complex.specs.Arithmetic.{cdiv}
-use Rattle.complex.specs.Lists.{tabulate, length-tabulate}
-use Rattle.complex.specs.Pairs.{cget, cfilled, length-parts, cfilled-length}
+use Rattle.complex.specs.Lists.{tabulate}
+use Rattle.complex.specs.ListLaws.{length-tabulate}
+use Rattle.complex.specs.Pairs.{cget, cfilled}
+use Rattle.complex.specs.PairLaws.{length-parts, cfilled-length}
 use Rattle.level.specs.declared.Layout.{Layout}
 use Rattle.level.specs.Rows.{IsLayout}
 use Rattle.dat.specs.Accepted.{Markers}

@@ -11,12 +11,13 @@ use lib.Ieee.{Float}
 use borrow.Author.Tests.{eqb-false}
 use Rattle.complex.specs.declared.Complex.{Complex}
 use Rattle.complex.specs.Arithmetic.{cmul}
-use Rattle.complex.specs.Lists.{tabulate-ext}
-use Rattle.complex.specs.Sums.{sum-ext}
+use Rattle.complex.specs.ListLaws.{tabulate-ext}
+use Rattle.complex.specs.SumLaws.{sum-ext}
 use Rattle.level.specs.declared.Layout.{Layout}
 use Rattle.level.specs.Layout.{stagger}
 use Rattle.level.specs.Rows.{IsLayout}
-use Rattle.level.specs.Sized.{Sized, sized, stagger-within}
+use Rattle.level.specs.Sized.{Sized}
+use Rattle.level.specs.SizedLaws.{sized, stagger-within}
 use Rattle.dat.specs.Cells.{phasor}
 use Rattle.search.specs.Chi.{Tables}
 use Rattle.search.specs.Search.{reach}

@@ -1,7 +1,6 @@
--- What a call comes to, and how its first fault is found (01, "Where each fault is met": top to bottom, first fault wins).
-use mathlib.Core.Path.{_≡_, refl}
+-- What a call comes to, and how its first fault is found (01, "Where each fault is met"). Definitions only.
 use mathlib.Core.Bool.{Bool, true, false}
-use mathlib.Core.List.{List, [], _∷_, _++_}
+use mathlib.Core.List.{List, [], _∷_}
 use Prim.Native.Nat.{ℕ}
 use Rattle.refusal.specs.declared.Refusal.{Refusal}
 use Rattle.refusal.specs.declared.Fault.{Fault}
@@ -35,7 +34,7 @@ abbrev pub firstOf : Refusal → Bool → Fault → Fault
 firstOf r true rest = Met r
 firstOf r false rest = rest
 
--- the rows of a call, read from the top: the first fault wins
+-- the rows of a call: "Top to bottom, first fault wins"
 abbrev pub firstFault : List Check → Fault
 firstFault [] = Clear
 firstFault (c ∷ cs) = firstOf (c .0) (c .1) (firstFault cs)
@@ -49,11 +48,3 @@ orElse (Met r) g = Met r
 abbrev pub judged : {A : Type 0} → Fault → Outcome A → Outcome A
 judged Clear a = a
 judged (Met r) a = refused (numberOf r)
-
-pub firstFault-append : (cs ds : List Check) → firstFault (cs ++ ds) ≡ orElse (firstFault cs) (firstFault ds)
-firstFault-append [] ds = refl
-firstFault-append (c ∷ cs) ds = go (c .1) (firstFault-append cs ds)
-  where
-    go : (b : Bool) → firstFault (cs ++ ds) ≡ orElse (firstFault cs) (firstFault ds) → firstOf (c .0) b (firstFault (cs ++ ds)) ≡ orElse (firstOf (c .0) b (firstFault cs)) (firstFault ds)
-    go true h = refl
-    go false h = h

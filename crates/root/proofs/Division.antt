@@ -5,7 +5,8 @@ use Prim.Native.Nat.{ℕ, zero, suc, _+_, _-_, _*_, _/_, _%_, _^_, _≤_, _<_, z
 use native.Mathlib.Nat.{le-trans, le-of-eq, le-of-lt, le-of-suc-le-suc, lt-of-lt-of-le, lt-of-le-of-lt, mul-comm, mul-assoc, mul-left-comm, mul-right-comm, mul-add, add-mul, suc-mul, mul-le-mul, mul-le-mul-left, mul-le-mul-right, mul-mul-mul-comm, zero-lt-suc, div-add-mod', div-lt-iff-lt-mul, mod-lt}
 use native.Mathlib.Omega.{arith}
 use lib.Dec.{lit≤}
-use Rattle.root.specs.Squares.{RootRem, next-square, square-mono}
+use Rattle.root.specs.Squares.{next-square, square-mono}
+use Rattle.root.specs.WholeRoot.{RootRem}
 
 abbrev pub numOf : ℕ → ℕ → ℕ → ℕ
 numOf rem s hi = rem * s + hi

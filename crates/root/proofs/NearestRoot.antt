@@ -13,13 +13,14 @@ use lib.Ieee.Exact.{HasValue}
 use lib.Ieee.Scale.{finite}
 use lib.Ieee.Positive.{positive, value-pos}
 use Rattle.complex.specs.Arithmetic.{fzero}
-use Rattle.laws.specs.Plain.{plain, plain-finite, positive-plain, cross-le}
+use Rattle.laws.specs.Plain.{plain-finite, positive-plain, cross-le}
+use Rattle.laws.specs.Floats.{signOf, plain}
 use Rattle.laws.specs.Rounding.{in-units}
 use Rattle.root.specs.Root.{sqrtOf}
 use Rattle.root.specs.Squares.{square-mono}
 use Rattle.root.specs.Rooted.{Rooted, rooted, sqrt-positive, sqrt-positive-fits}
 use Rattle.root.specs.Nearest.{half-way}
-use Rattle.root.specs.NearestRoot.{inUnits, isMinus, Farther, IsNearest, NearestRoot}
+use Rattle.root.specs.NearestRoot.{inUnits, Farther, IsNearest, NearestRoot}
 
 units-of : (x : Float) (s : Bool) (n : ℕ) → HasValue x s n (2 ^ 1074) → inUnits x ≡ n
 units-of nan s n v = absurd v
@@ -50,7 +51,7 @@ module _ (x : Float) (F : T (fits binary64 x)) (p : T (positive x)) where
   y : ℕ
   y = R .r * 2 ^ R .k
 
-  far : (z : Float) → T (fits binary64 z) → T (finite z) → Farther (n * 2 ^ 1074) y (isMinus z) (inUnits z)
+  far : (z : Float) → T (fits binary64 z) → T (finite z) → Farther (n * 2 ^ 1074) y (signOf z) (inUnits z)
   unfolding n y R fits
   far nan G q = absurd q
   far (inf s) G q = absurd q
@@ -90,7 +91,7 @@ module _ (s : Bool) (e : ℤ) where
   unfolding eq
   same t d h = true≢false (sym (or-true (Bool·beq t s)) ∙ simp zero-mul at h)
 
-  far-zero : (z : Float) → T (fits binary64 z) → T (finite z) → eq z (fin s 0 e) ≡ false → Farther (0 * 2 ^ 1074) 0 (isMinus z) (inUnits z)
+  far-zero : (z : Float) → T (fits binary64 z) → T (finite z) → eq z (fin s 0 e) ≡ false → Farther (0 * 2 ^ 1074) 0 (signOf z) (inUnits z)
   far-zero nan G q d = absurd q
   far-zero (inf t) G q d = absurd q
   far-zero (fin false m c) G q d = (square-pos (inUnits (fin false m c)), λ h. absurd (omega arith))

@@ -1,4 +1,4 @@
--- The definitions at worked numbers: 2, 4, the least value above zero, the largest finite value, the signs, the infinities and a NaN; 3 - 4j and 0.
+-- The definitions at worked numbers: 2, 4, the least value above zero, the largest finite value, the signs, the infinities and a NaN; 3 - 4j and 0. Assumes nothing.
 use mathlib.Core.Path.{_≡_, refl}
 use mathlib.Core.Bool.{true, false}
 use lib.IntN.{pos}

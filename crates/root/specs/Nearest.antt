@@ -17,7 +17,7 @@ use lib.Ieee.Digits.{back}
 use lib.Ieee.Exact.{HasValue}
 use lib.Ieee.Order.{le-of-values}
 use lib.Ieee.Positive.{positive}
-use Rattle.laws.specs.Plain.{plain}
+use Rattle.laws.specs.Floats.{plain}
 use Rattle.laws.specs.Rounding.{in-units}
 use Rattle.root.specs.Root.{sqrtOf}
 use Rattle.root.specs.Squares.{double-square, next-square, square-mono, root-le-root}

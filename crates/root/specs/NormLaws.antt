@@ -14,8 +14,9 @@ use lib.Ieee.Scale.{finite}
 use lib.Ieee.Positive.{num, den, den-pos, through, first-pos}
 use Rattle.complex.specs.Arithmetic.{normSqr}
 use Rattle.complex.specs.declared.Complex.{Complex}
-use Rattle.laws.specs.Plain.{plain, plain-positive, value-plain, le-cross}
-use Rattle.laws.specs.Size.{Within, within-finite, round-lower, add-within, mul-within}
+use Rattle.laws.specs.Plain.{plain-positive, value-plain, le-cross}
+use Rattle.laws.specs.Floats.{plain, Within}
+use Rattle.laws.specs.Size.{within-finite, round-lower, add-within, mul-within}
 use Rattle.laws.specs.Rounding.{in-units}
 use Rattle.laws.specs.Operations.{square-is, square-plain, mul-finite, add-finite, add-plain, add-ge, add-comm}
 use Rattle.root.specs.Root.{sqrtOf, normOf}

@@ -1,4 +1,4 @@
--- What the mean norm and the division by it ask of a square root, and that `sqrtOf` has it. Assumes nothing.
+-- What the mean norm and the division by it ask of a square root. Assumes nothing.
 use mathlib.Core.Path.{_≡_, sym, ap, _∙_}
 use Prim.Native.Nat.{ℕ, zero, suc, _+_, _*_, _^_, _≤_, _<_, zero-le}
 use native.Mathlib.Nat.{le-trans, le-of-eq, le-of-lt, zero-lt-suc, zero-mul, mul-le-mul-right, le-of-mul-le-mul-right, le-of-mul-le-mul-left, mul-pos}
@@ -6,22 +6,16 @@ use native.Mathlib.Omega.{arith}
 use mathlib.Core.Bool.{true, false}
 use lib.Dec.{T, lt→ltb}
 use lib.Pow.{pow-pos}
-use lib.Ieee.{Float, nan, inf, fin, Format, binary64, up, fits}
+use lib.Ieee.{Float, nan, inf, fin, binary64, up, fits}
 use lib.Ieee.Fits.{up-pos, nan-fits}
 use lib.Ieee.Scale.{finite}
 use lib.Ieee.Positive.{num, den, positive}
-use Rattle.laws.specs.Plain.{plain, positive-plain, value-plain}
+use Rattle.laws.specs.Plain.{positive-plain, value-plain}
+use Rattle.laws.specs.Rounding.{zero-not-above}
+use Rattle.laws.specs.Floats.{plain}
 use Rattle.root.specs.Root.{sqrtOf}
 use Rattle.root.specs.Squares.{square-mono}
 use Rattle.root.specs.Rooted.{rooted, sqrt-positive, sqrt-positive-fits}
-
-pub record Root (f : Format) (root : Float → Float) : Type 0 where
-  pub finite-of : (x : Float) → T (finite (root x)) → T (finite x)
-  pub plain-at : (x : Float) → T (plain x) → T (fits f x) → T (plain (root x))
-  pub fits-at : (x : Float) → T (plain x) → T (fits f x) → T (fits f (root x))
-  pub zero-at : (x : Float) → T (plain x) → num x ≡ 0 → num (root x) ≡ 0
-  -- x is at most 4 times its root's square
-  pub square : (x : Float) → T (plain x) → T (fits f x) → num x * (den (root x) * den (root x)) ≤ 4 * (num (root x) * num (root x)) * den x
 
 pub sqrt-finite : (x : Float) → T (finite (sqrtOf x)) → T (finite x)
 unfolding sqrtOf
@@ -51,10 +45,7 @@ sqrt-zero nan p z = z
 sqrt-zero (inf s) p z = absurd p
 sqrt-zero (fin s zero e) p z = z
 sqrt-zero (fin true (suc m) e) p z = absurd p
-sqrt-zero (fin false (suc m) e) p z = absurd (none (suc m * up e) (mul-pos (zero-lt-suc m) (up-pos e)) z)
-  where
-    none : (a : ℕ) → 0 < a → a ≡ 0 → ⊥
-    none a h e = omega arith
+sqrt-zero (fin false (suc m) e) p z = absurd (zero-not-above (suc m * up e) z (mul-pos (zero-lt-suc m) (up-pos e)))
 
 -- in units: n * 2 ^ 1074 is below the square of y and a half, so at most that of 2 * y
 in-units-square : (w r P : ℕ) → 2 ^ 52 ≤ r → 4 * w < (2 * r + 1) * (2 * r + 1) * (P * P) → w ≤ 4 * (r * P * (r * P))
@@ -101,6 +92,3 @@ sqrt-square (inf s) F p = absurd p
 sqrt-square (fin true m e) F p = absurd p
 sqrt-square (fin false zero e) F p = rw zero-mul (rw zero-mul (zero-le))
 sqrt-square (fin false (suc m) e) F p = positive-square (fin false (suc m) e) F (lt→ltb 0 (suc m) (zero-lt-suc m))
-
-pub root-is : Root binary64 sqrtOf
-root-is = record { finite-of = sqrt-finite; plain-at = λ x p t. sqrt-plain x t p; fits-at = λ x p t. sqrt-fits x t; zero-at = sqrt-zero; square = λ x p t. sqrt-square x t p }

@@ -14,7 +14,8 @@ use lib.Ieee.Bits.{is-true}
 use lib.Ieee.Fits.{down-pos}
 use lib.Ieee.Digits.{size-lt, size-le}
 use Rattle.root.specs.Root.{wholeRoot, rootUnits, sqrtOf}
-use Rattle.root.specs.Squares.{IsRoot, double-square, square-mono, root-lt, root-le, four-pow, whole-is}
+use Rattle.root.specs.Squares.{double-square, square-mono, root-lt, root-le, four-pow, whole-is}
+use Rattle.root.specs.WholeRoot.{IsRoot}
 
 -- ---- how many digits are dropped
 size-exact : (n k : ℕ) → 2 ^ (52 + k) ≤ n → n < 2 ^ (53 + k) → size n - 53 ≡ k

@@ -15,7 +15,8 @@ use lib.Ieee.Positive.{positive, positive-of-value, value-pos}
 use Rattle.laws.specs.Plain.{positive-plain}
 use Rattle.laws.specs.Rounding.{in-units}
 use Rattle.root.specs.Root.{wholeRoot, sqrtOf}
-use Rattle.root.specs.Squares.{IsRoot, double-square, square-mono, root-lt, root-le, whole-is}
+use Rattle.root.specs.Squares.{double-square, square-mono, root-lt, root-le, whole-is}
+use Rattle.root.specs.WholeRoot.{IsRoot}
 use Rattle.root.specs.RootUnits.{Kept, kept, sqrt-value, units-are}
 
 -- x is m * 2 ^ j units. The root of x is less than r and a half above, and no less than r less a half; where r is the least of 53 digits, it is no less than r

@@ -10,6 +10,7 @@ use lib.Pow.{pow-add, pow-mono}
 use lib.Ieee.{size}
 use lib.Ieee.Digits.{size-lt}
 use Rattle.root.specs.Root.{rootIn, wholeRoot}
+use Rattle.root.specs.WholeRoot.{IsRoot, RootRem}
 
 pub double-square : (a : ℕ) → 2 * a * (2 * a) ≡ 4 * (a * a)
 double-square a = mul-mul-mul-comm 2 a 2 a
@@ -42,15 +43,6 @@ root-le a b n h k = le-of-suc-le-suc (subst (λ (x : ℕ). a < x) (add-one b) (r
 pub four-pow : (k : ℕ) → 4 ^ k ≡ 2 ^ k * 2 ^ k
 four-pow zero = refl
 four-pow (suc k) = pow-suc 4 k ∙ ap (λ (x : ℕ). x * 4) (four-pow k) ∙ sym (ap (λ (x : ℕ). x * x) (pow-suc 2 k) ∙ mul-mul-mul-comm (2 ^ k) 2 (2 ^ k) 2)
-
--- r is the whole part of √n
-abbrev pub IsRoot : ℕ → ℕ → Type 0
-IsRoot n r = (r * r ≤ n) × (n < (r + 1) * (r + 1))
-
--- the same with the remainder: n is r * r and rem more, and no larger r will do
-pub record RootRem (n r rem : ℕ) : Type 0 where
-  pub sum : r * r + rem ≡ n
-  pub small : rem ≤ 2 * r
 
 pub root-of : (n r rem : ℕ) → RootRem n r rem → IsRoot n r
 root-of n r rem h = go n (r * r) ((r + 1) * (r + 1)) (next-square r) (h .sum) (h .small)

@@ -5,7 +5,7 @@ ghost use Prim.Native.Nat.{_+_, _*_, _<_, _≤_, _^_};
 ghost use lib.Ieee as Ieee;
 ghost use lib.Ieee.{binary64};
 ghost use Rattle.root.specs.Root.{sqrtOf, normOf};
-ghost use Rattle.root.specs.Squares.{RootRem};
+ghost use Rattle.root.specs.WholeRoot.{RootRem};
 ghost use Rattle.root.specs.Unit.{unitOf};
 use complex::Complex;
 

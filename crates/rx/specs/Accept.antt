@@ -5,11 +5,13 @@ use mathlib.Core.List.{List}
 use native.Mathlib.Omega.{arith}
 use lib.ListN.{length}
 use lib.Ieee.{Float}
-use Rattle.complex.specs.Lists.{tabulate, tabulate-ext, getD-tabulate}
-use Rattle.complex.specs.Pairs.{complexes, complexes-length}
+use Rattle.complex.specs.Lists.{tabulate}
+use Rattle.complex.specs.ListLaws.{tabulate-ext, getD-tabulate}
+use Rattle.complex.specs.Pairs.{complexes}
+use Rattle.complex.specs.PairLaws.{complexes-length}
 use Rattle.level.specs.declared.Layout.{Layout}
 use Rattle.level.specs.Rows.{IsLayout}
-use Rattle.level.specs.Sized.{sized}
+use Rattle.level.specs.SizedLaws.{sized}
 use Rattle.track.specs.declared.Span.{Span}
 use Rattle.track.specs.Track.{Track, valueAt}
 use Rattle.track.specs.Memory.{partLength, samplesPart, filteredPart, stepPart, powerPart, trackIn}

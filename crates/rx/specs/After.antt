@@ -12,7 +12,8 @@ use Rattle.refusal.specs.declared.Position.{Position}
 use Rattle.complex.specs.Lists.{tabulate}
 use Rattle.level.specs.declared.Layout.{Layout}
 use Rattle.level.specs.Rows.{IsLayout}
-use Rattle.level.specs.Sized.{Sized, sized}
+use Rattle.level.specs.Sized.{Sized}
+use Rattle.level.specs.SizedLaws.{sized}
 use Rattle.track.specs.declared.Span.{Span}
 use Rattle.track.specs.Track.{Track, endOf, trimmedBase}
 use Rattle.track.specs.Trims.{Trimmed, trimmed}

@@ -7,7 +7,7 @@ use lib.Dec.{lit≤}
 use Rattle.level.specs.declared.Layout.{Layout}
 use Rattle.level.specs.Lengths.{memoryLength}
 use Rattle.level.specs.Rows.{IsLayout}
-use Rattle.level.specs.Sized.{sized}
+use Rattle.level.specs.SizedLaws.{sized}
 use Rattle.dat.specs.Accepted.{Markers, Phasors}
 use Rattle.track.specs.declared.Span.{Span}
 use Rattle.track.specs.Track.{trimmedBase}

@@ -7,7 +7,7 @@ use lib.ListN.{length, take, length-take}
 use lib.Ieee.{Float}
 use Rattle.level.specs.declared.Layout.{Layout}
 use Rattle.level.specs.Rows.{IsLayout}
-use Rattle.level.specs.Sized.{sized}
+use Rattle.level.specs.SizedLaws.{sized}
 use Rattle.track.specs.declared.Span.{Span}
 use Rattle.track.specs.Memory.{partLength}
 use Rattle.hold.specs.declared.Hold.{Hold}

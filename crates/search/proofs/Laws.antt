@@ -9,7 +9,8 @@ use lib.ListN.{length, getD, take, replicate, length-take, length-replicate, get
 use lib.Seq.{getD-take}
 use lib.Ieee.{Float, nan}
 use Rattle.complex.specs.Arithmetic.{fzero, cx}
-use Rattle.complex.specs.Lists.{tabulate, tabulate-ext}
+use Rattle.complex.specs.Lists.{tabulate}
+use Rattle.complex.specs.ListLaws.{tabulate-ext}
 use Rattle.chi.specs.Dot.{dotAt}
 use Rattle.blocks.specs.Planes.{pget, Zeros, Dots, RowsFit}
 use Rattle.hold.specs.declared.Hold.{Hold}

@@ -8,8 +8,9 @@ use lib.ListN.{length, getD}
 use lib.Ieee.{Float}
 use Rattle.complex.specs.declared.Complex.{Complex}
 use Rattle.complex.specs.Arithmetic.{cmul}
-use Rattle.complex.specs.Sums.{sum-ext}
-use Rattle.complex.specs.Lists.{tabulate, tabulate-ext}
+use Rattle.complex.specs.SumLaws.{sum-ext}
+use Rattle.complex.specs.Lists.{tabulate}
+use Rattle.complex.specs.ListLaws.{tabulate-ext}
 use Rattle.refusal.specs.declared.Position.{Position}
 use Rattle.level.specs.declared.Layout.{Layout}
 use Rattle.level.specs.Rows.{IsLayout}

@@ -8,12 +8,14 @@ use lib.ListN.{length, getD, length-map, List·getD-map}
 use lib.Ieee.{Float, nan}
 use Rattle.complex.specs.declared.Complex.{Complex}
 use Rattle.complex.specs.Arithmetic.{cx, cmul}
-use Rattle.complex.specs.Sums.{sumTo, sum-ext}
-use Rattle.complex.specs.Pairs.{cget, parts, getD-pairs, pairs-parts, length-parts}
+use Rattle.complex.specs.Sums.{sumTo}
+use Rattle.complex.specs.SumLaws.{sum-ext}
+use Rattle.complex.specs.Pairs.{cget, parts}
+use Rattle.complex.specs.PairLaws.{getD-pairs, pairs-parts, length-parts}
 use Rattle.level.specs.declared.Layout.{Layout}
 use Rattle.level.specs.Lengths.{memoryLength}
 use Rattle.level.specs.Rows.{IsLayout}
-use Rattle.level.specs.Sized.{stagger-within}
+use Rattle.level.specs.SizedLaws.{stagger-within}
 use Rattle.dat.specs.Cells.{Cell, cellAt}
 use Rattle.dat.specs.Accepted.{Markers}
 use Rattle.track.specs.declared.Span.{Span}

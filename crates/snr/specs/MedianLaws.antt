@@ -5,7 +5,7 @@ use mathlib.Core.List.{List}
 use native.Mathlib.Omega.{arith}
 use lib.Ieee.{Float}
 use Rattle.complex.specs.declared.Complex.{Complex}
-use Rattle.complex.specs.Sums.{sum-ext}
+use Rattle.complex.specs.SumLaws.{sum-ext}
 use Rattle.snr.specs.Error.{directionOf, directionSum, phaseTurn, errorOf}
 use Rattle.snr.specs.Median.{insertInto, sortedOf, middleOf, sortedErrors, medianOf}
 

@@ -7,14 +7,15 @@ use native.Mathlib.Omega.{arith}
 use lib.Ieee.{Float}
 use Rattle.complex.specs.declared.Complex.{Complex}
 use Rattle.complex.specs.Arithmetic.{czero, cscale}
-use Rattle.complex.specs.Sums.{sum-ext}
-use Rattle.complex.specs.Pairs.{cget, cfilled, cfilled-at}
+use Rattle.complex.specs.SumLaws.{sum-ext}
+use Rattle.complex.specs.Pairs.{cget, cfilled}
+use Rattle.complex.specs.PairLaws.{cfilled-at}
 use Rattle.level.specs.declared.Layout.{Layout}
 use Rattle.level.specs.Layout.{stagger}
 use Rattle.level.specs.Lengths.{memoryLength}
 use Rattle.level.specs.Rows.{IsLayout}
-use Rattle.level.specs.Sized.{sized, stagger-within}
-use Rattle.dat.specs.Accepted.{row-in}
+use Rattle.level.specs.SizedLaws.{sized, stagger-within}
+use Rattle.dat.specs.AcceptedLaws.{row-in}
 use Rattle.track.specs.declared.Span.{Span}
 use Rattle.track.specs.Memory.{partLength, samplesPart}
 use Rattle.track.specs.Values.{span-within, span-before, span-past}

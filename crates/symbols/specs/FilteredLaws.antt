@@ -10,8 +10,8 @@ use Rattle.level.specs.declared.Layout.{Layout}
 use Rattle.level.specs.Layout.{stagger}
 use Rattle.level.specs.Lengths.{memoryLength}
 use Rattle.level.specs.Rows.{IsLayout}
-use Rattle.level.specs.Sized.{sized, stagger-within}
-use Rattle.dat.specs.Accepted.{row-in}
+use Rattle.level.specs.SizedLaws.{sized, stagger-within}
+use Rattle.dat.specs.AcceptedLaws.{row-in}
 use Rattle.track.specs.declared.Span.{Span}
 use Rattle.track.specs.Memory.{partLength, filteredPart}
 use Rattle.track.specs.Values.{span-within}

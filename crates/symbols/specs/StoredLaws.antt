@@ -8,7 +8,8 @@ use native.Mathlib.Omega.{arith}
 use lib.ListN.{length, length-set}
 use lib.Ieee.{Float}
 use Rattle.complex.specs.declared.Complex.{Complex}
-use Rattle.complex.specs.Pairs.{cset, cfilled, cfilled-length, cfilled-step}
+use Rattle.complex.specs.Pairs.{cset, cfilled}
+use Rattle.complex.specs.PairLaws.{cfilled-length, cfilled-step}
 use Rattle.eq.specs.Fill.{Filling, filling-none}
 use Rattle.symbols.specs.Standing.{storedFrom}
 

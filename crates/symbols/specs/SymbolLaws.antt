@@ -9,13 +9,14 @@ use lib.Ieee.{Float}
 use borrow.Author.Tests.{eq-eqb, ne-eqb}
 use Rattle.complex.specs.declared.Complex.{Complex}
 use Rattle.complex.specs.Arithmetic.{czero, cmul}
-use Rattle.complex.specs.Lists.{tabulate, getD-tabulate}
+use Rattle.complex.specs.Lists.{tabulate}
+use Rattle.complex.specs.ListLaws.{getD-tabulate}
 use Rattle.complex.specs.Pairs.{cget, cfilled}
 use Rattle.complex.specs.Rows.{quotient, remainder}
 use Rattle.level.specs.declared.Layout.{Layout}
 use Rattle.level.specs.Rows.{IsLayout}
-use Rattle.level.specs.Sized.{sized}
-use Rattle.dat.specs.Accepted.{row-in}
+use Rattle.level.specs.SizedLaws.{sized}
+use Rattle.dat.specs.AcceptedLaws.{row-in}
 use Rattle.dat.specs.Cells.{phasor}
 use Rattle.track.specs.declared.Span.{Span}
 use Rattle.filter.specs.Carrier.{IsTaps}

@@ -7,7 +7,7 @@ use Rattle.level.specs.Level.{levelOf}
 use Rattle.level.specs.Layout.{layoutOf}
 use Rattle.level.specs.Lengths.{carrierHz}
 use Rattle.level.specs.Tested.{below, below-at}
-use Rattle.level.specs.Rows.{layout-rule}
+use Rattle.level.specs.RowLaws.{layout-rule}
 use Rattle.taps.specs.PhaseSteps.{phaseSteps, stepBits, CarrierSteps}
 
 steps : Layout → ℕ → Bool

@@ -1,5 +1,4 @@
--- "phase steps and the 32 taps of `interp16_taps` printed once as constants" (01, "Beside the chain"): the steps.
--- Definitions only.
+-- The carriers' phase steps (01, "Beside the chain"). Definitions only.
 use Prim.Native.Nat.{ℕ, _<_}
 use mathlib.Core.Bool.{cond}
 use mathlib.Core.List.{List, [], _∷_}
@@ -9,7 +8,8 @@ use Rattle.level.specs.declared.Layout.{Layout}
 use Rattle.level.specs.Lengths.{carrierHz}
 use Rattle.level.specs.Rows.{IsLayout}
 
--- a carrier's Hz, and 2π × Hz / 48000 as `nco_phase` of hf/psk.rs rounds it, by its binary32 pattern
+-- "phase steps and the 32 taps of `interp16_taps` printed once as constants": a carrier's Hz, and 2π × Hz / 48000
+-- as `nco_phase` of hf/psk.rs rounds it, by its binary32 pattern
 abbrev pub phaseSteps : List (ℕ × ℕ)
 phaseSteps =
     (240, 0x3d00_adfd) ∷ (375, 0x3d49_0fdb) ∷ (380, 0x3d4b_be25) ∷ (450, 0x3d71_463a) ∷ (510, 0x3d88_b8dc) ∷

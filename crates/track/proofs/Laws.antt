@@ -10,8 +10,9 @@ use lib.Seq.{getD-set-same, getD-set-other}
 use lib.Ieee.{Float, nan}
 use Rattle.complex.specs.declared.Complex.{Complex}
 use Rattle.complex.specs.Arithmetic.{cx}
-use Rattle.complex.specs.Lists.{tabulate-ext}
-use Rattle.complex.specs.Pairs.{cget, cset, complexes, complexes-length}
+use Rattle.complex.specs.ListLaws.{tabulate-ext}
+use Rattle.complex.specs.Pairs.{cget, cset, complexes}
+use Rattle.complex.specs.PairLaws.{complexes-length}
 use Rattle.level.specs.declared.Layout.{Layout}
 use Rattle.track.specs.declared.Span.{Span}
 use Rattle.track.specs.Window.{window, window-append, window-drop}

@@ -7,7 +7,8 @@ use lib.ListN.{getD, List·getD-eq-default}
 use lib.Ieee.{Float}
 use borrow.Author.Tests.{le-leb, lt-leb}
 use Rattle.complex.specs.Arithmetic.{czero}
-use Rattle.complex.specs.Pairs.{cget, complexes-length, complexes-at}
+use Rattle.complex.specs.Pairs.{cget}
+use Rattle.complex.specs.PairLaws.{complexes-length, complexes-at}
 use Rattle.level.specs.declared.Layout.{Layout}
 use Rattle.track.specs.declared.Span.{Span}
 use Rattle.track.specs.Track.{Track, endOf, valueAt}

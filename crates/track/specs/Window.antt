@@ -6,7 +6,8 @@ use native.Mathlib.Nat.{add-assoc, add-zero, add-suc}
 use native.Mathlib.Omega.{arith}
 use lib.ListN.{length, getD, drop}
 use lib.Seq.{drop-at}
-use Rattle.complex.specs.Lists.{tabulate, length-tabulate, getD-tabulate, tabulate-ext}
+use Rattle.complex.specs.Lists.{tabulate}
+use Rattle.complex.specs.ListLaws.{length-tabulate, getD-tabulate, tabulate-ext}
 
 -- f b, f (b + 1), up to f (b + n - 1)
 unfoldable pub window {ℓ} : {A : Type ℓ} → (ℕ → A) → ℕ → ℕ → List A

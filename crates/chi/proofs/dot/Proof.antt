@@ -3,7 +3,8 @@ use Prim.Native.Nat.{_+_, _-_, _*_, _<_, _≤_}
 use mathlib.Core.Path.{_≡_, ap, _∙_}
 use native.Mathlib.Omega.{arith}
 use lib.ListN.{length, getD}
-use Rattle.complex.specs.Sums.{sumTo, sum-step}
+use Rattle.complex.specs.Sums.{sumTo}
+use Rattle.complex.specs.SumLaws.{sum-step}
 use Rattle.chi.specs.Dot.{dotAt, dotTerm}
 use borrow.Author.Needs.{needs}
 use Rattle.chi.proofs.dot.Statement.{statement}

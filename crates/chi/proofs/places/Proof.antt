@@ -3,7 +3,8 @@ use Prim.Native.Nat.{ℕ, _-_, _≤_}
 use mathlib.Core.Path.{_≡_, refl, ap, _∙_}
 use native.Mathlib.Omega.{arith}
 use lib.ListN.{length, getD, set, length-set}
-use Rattle.complex.specs.Lists.{tabulate, filled, filled-none, filled-step, filled-all}
+use Rattle.complex.specs.Lists.{tabulate, filled}
+use Rattle.complex.specs.ListLaws.{filled-none, filled-step, filled-all}
 use Rattle.dat.specs.Cells.{cellAt}
 use Rattle.chi.specs.Table.{placeOf}
 use Rattle.chi.proofs.Laws.{tabulate-map}

@@ -4,7 +4,8 @@ use mathlib.Core.Path.{_≡_, refl, ap, _∙_}
 use native.Mathlib.Omega.{arith}
 use lib.ListN.{length, getD}
 use Rattle.complex.specs.declared.Complex.{Complex}
-use Rattle.complex.specs.Pairs.{parts, cset, cfilled, cfilled-none, cfilled-step, cfilled-length}
+use Rattle.complex.specs.Pairs.{parts, cset, cfilled}
+use Rattle.complex.specs.PairLaws.{cfilled-none, cfilled-step, cfilled-length}
 use Rattle.chi.specs.Table.{referenceFor}
 use Rattle.chi.proofs.Laws.{tabulate-map, cfilled-all}
 use Rattle.chi.proofs.references.Statement.{statement}

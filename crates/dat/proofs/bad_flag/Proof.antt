@@ -1,7 +1,7 @@
 -- `dat::bad_flag` meets its contract: the flag is compared with what the values set. Assumes nothing.
 use native.Mathlib.Omega.{arith}
-use Rattle.dat.specs.Accepted.{flags-small, flag-in}
-use Rattle.dat.specs.Flags.{flag-tested, set-room}
+use Rattle.dat.specs.AcceptedLaws.{flags-small, flag-in}
+use Rattle.dat.specs.FlagLaws.{flag-tested, set-room}
 use Rattle.dat.proofs.bad_flag.Statement.{statement}
 use Rattle.dat.proofs.bad_flag.Tie as tie
 

@@ -11,7 +11,7 @@ use borrow.Author.Tests.{lt-ltb, le-ltb}
 use Rattle.refusal.specs.Any.{any}
 use Rattle.level.specs.declared.Layout.{Layout}
 use Rattle.dat.specs.Tables.{value, badValue}
-use Rattle.dat.specs.Accepted.{values-small, value-in, values-in}
+use Rattle.dat.specs.AcceptedLaws.{values-small, value-in, values-in}
 use Rattle.dat.proofs.bad_value.Statement.{statement}
 use Rattle.dat.proofs.bad_value.Tie as tie
 

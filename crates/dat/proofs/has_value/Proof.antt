@@ -6,7 +6,8 @@ use native.Mathlib.Omega.{arith}
 use lib.Dec.{eqb}
 use lib.ListN.{getD}
 use borrow.Author.Tests.{eq-eqb, ne-eqb}
-use Rattle.refusal.specs.Any.{any, any-none, any-more, any-at, any-done}
+use Rattle.refusal.specs.Any.{any}
+use Rattle.refusal.specs.AnyLaws.{any-none, any-more, any-at, any-done}
 use Rattle.dat.proofs.has_value.Statement.{statement}
 use Rattle.dat.proofs.has_value.Tie as tie
 

@@ -7,7 +7,8 @@ use native.Mathlib.Omega.{arith}
 use lib.Dec.{eqb}
 use Rattle.level.specs.declared.Layout.{Layout}
 use Rattle.dat.specs.Tables.{flag, marked}
-use Rattle.dat.specs.Accepted.{Markers, InTable, flags-small, flag-in, flag-is, low-symbol}
+use Rattle.dat.specs.Accepted.{Markers, InTable}
+use Rattle.dat.specs.AcceptedLaws.{flags-small, flag-in, flag-is, low-symbol}
 use Rattle.dat.proofs.is_mark.Statement.{statement}
 use Rattle.dat.proofs.is_mark.Tie as tie
 

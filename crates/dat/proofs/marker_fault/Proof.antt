@@ -9,7 +9,7 @@ use Rattle.refusal.specs.declared.Refusal.the-variants.{MarkerLength, MarkerVal
 use Rattle.refusal.specs.declared.Fault.the-variants.{Clear, Met}
 use Rattle.level.specs.declared.Layout.{Layout}
 use Rattle.dat.specs.Tables.{wrongLength, wrongValue, wrongFlag, markerFault}
-use Rattle.dat.specs.Accepted.{table-small, length-right, length-wrong}
+use Rattle.dat.specs.AcceptedLaws.{table-small, length-right, length-wrong}
 use Rattle.dat.proofs.marker_fault.Statement.{statement}
 use Rattle.dat.proofs.marker_fault.Tie as tie
 

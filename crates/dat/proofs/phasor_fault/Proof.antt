@@ -8,7 +8,7 @@ use Rattle.refusal.specs.declared.Refusal.the-variants.{PhasorCount, PhasorSize
 use Rattle.refusal.specs.declared.Fault.the-variants.{Clear, Met}
 use Rattle.level.specs.declared.Layout.{Layout}
 use Rattle.dat.specs.Tables.{wrongCount, wrongSize, phasorFault}
-use Rattle.dat.specs.Accepted.{phasors-small, count-right, count-wrong}
+use Rattle.dat.specs.AcceptedLaws.{phasors-small, count-right, count-wrong}
 use Rattle.dat.proofs.phasor_fault.Statement.{statement}
 use Rattle.dat.proofs.phasor_fault.Tie as tie
 

@@ -5,7 +5,7 @@ use native.Mathlib.Nat.{le-of-lt, lt-of-le-of-lt, sub-le}
 use native.Mathlib.Omega.{arith}
 use Rattle.complex.specs.Arithmetic.{cmul, cconj}
 use Rattle.dat.specs.Cells.{referenceOf}
-use Rattle.dat.specs.Accepted.{rows-small, phasor-in}
+use Rattle.dat.specs.AcceptedLaws.{rows-small, phasor-in}
 use borrow.Author.Needs.{needs}
 use Rattle.dat.proofs.reference.Statement.{statement}
 use Rattle.dat.proofs.reference.Tie as tie

@@ -7,7 +7,8 @@ use native.Mathlib.Omega.{arith}
 use lib.ListN.{length}
 use Rattle.dat.specs.Tables.{marked}
 use Rattle.dat.specs.Cells.{picked}
-use Rattle.dat.specs.Select.{Gathered, gathered-none, room, gathered-more, gathered-all}
+use Rattle.dat.specs.Select.{Gathered}
+use Rattle.dat.specs.SelectLaws.{gathered-none, room, gathered-more, gathered-all}
 use borrow.Author.Needs.{needs}
 use Rattle.dat.proofs.select.Statement.{statement}
 use Rattle.dat.proofs.select.Tie as tie

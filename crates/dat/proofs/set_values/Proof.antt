@@ -4,8 +4,8 @@ use mathlib.Core.Path.{_≡_, sym, ap, _∙_}
 use native.Mathlib.Omega.{arith}
 use lib.ListN.{length}
 use Rattle.dat.specs.Tables.{value}
-use Rattle.dat.specs.Accepted.{values-small, value-in}
-use Rattle.dat.specs.Flags.{setBefore, before-none, before-length, before-more, before-all, value-room}
+use Rattle.dat.specs.AcceptedLaws.{values-small, value-in}
+use Rattle.dat.specs.FlagLaws.{setBefore, before-none, before-length, before-more, before-all, value-room}
 use Rattle.dat.proofs.set_values.Statement.{statement}
 use Rattle.dat.proofs.set_values.Tie as tie
 

@@ -3,8 +3,9 @@ use Prim.Native.Nat.{ℕ, _-_, _*_, _/_, _≤_}
 use mathlib.Core.Path.{_≡_, refl, ap, _∙_}
 use native.Mathlib.Omega.{arith}
 use lib.ListN.{length, getD, length-set}
-use Rattle.complex.specs.Lists.{filled, filled-none, filled-step, filled-all}
-use Rattle.dat.specs.Select.{thin-is, thin-in, thin-small}
+use Rattle.complex.specs.Lists.{filled}
+use Rattle.complex.specs.ListLaws.{filled-none, filled-step, filled-all}
+use Rattle.dat.specs.SelectLaws.{thin-is, thin-in, thin-small}
 use Rattle.dat.proofs.spread.Statement.{statement}
 use Rattle.dat.proofs.spread.Tie as tie
 

@@ -4,10 +4,11 @@ use mathlib.Core.Path.{_≡_, sym, ap, _∙_}
 use mathlib.Core.Bool.{false}
 use native.Mathlib.Omega.{arith}
 use borrow.Author.Needs.{needs}
-use Rattle.refusal.specs.Any.{any, any-none, any-more, any-at, any-done}
+use Rattle.refusal.specs.Any.{any}
+use Rattle.refusal.specs.AnyLaws.{any-none, any-more, any-at, any-done}
 use Rattle.complex.specs.Pairs.{cget}
 use Rattle.dat.specs.Tables.{badPhasor, wrongSize}
-use Rattle.dat.specs.Accepted.{count-is, phasors-small}
+use Rattle.dat.specs.AcceptedLaws.{count-is, phasors-small}
 use Rattle.dat.proofs.wrong_size.Statement.{statement}
 use Rattle.dat.proofs.wrong_size.Tie as tie
 

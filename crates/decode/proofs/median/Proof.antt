@@ -5,7 +5,7 @@ use mathlib.Core.Path.{ap, _∙_}
 use mathlib.Core.List.{List}
 use lib.Ieee.{Float}
 use Rattle.complex.specs.Pairs.{cget}
-use Rattle.level.specs.Sized.{sized}
+use Rattle.level.specs.SizedLaws.{sized}
 use Rattle.snr.specs.Median.{medianOf}
 use Rattle.decode.specs.Places.{some-marks, median-is}
 use borrow.Author.Needs.{needs}

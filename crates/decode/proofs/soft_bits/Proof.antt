@@ -1,6 +1,6 @@
 -- `decode::soft_bits` meets its contract: its array has room for the cells of every layout. Assumes nothing.
 use native.Mathlib.Omega.{arith}
-use Rattle.level.specs.Sized.{sized}
+use Rattle.level.specs.SizedLaws.{sized}
 use Rattle.decode.specs.Places.{cells-room, front}
 use borrow.Author.Needs.{needs}
 use Rattle.decode.proofs.soft_bits.Statement.{statement}

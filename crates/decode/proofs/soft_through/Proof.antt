@@ -2,7 +2,7 @@
 use Prim.Native.Nat.{ℕ}
 use mathlib.Core.Path.{ap, _∙_}
 use mathlib.Core.List.{List}
-use Rattle.level.specs.Sized.{sized}
+use Rattle.level.specs.SizedLaws.{sized}
 use Rattle.soft.specs.SoftCells.{softCells}
 use Rattle.marks.specs.declared.Kind.the-variants as kind
 use Rattle.decode.specs.Places.{soft-room, steps-inside, soft-are}

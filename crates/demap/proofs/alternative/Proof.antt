@@ -7,7 +7,7 @@ use borrow.Author.Needs.{needs}
 use lib.Ieee.{Float, ofBits, div}
 use Rattle.complex.specs.declared.Complex.{Complex}
 use Rattle.constellation.specs.Alphabet.{alphabet, pointOf}
-use Rattle.constellation.specs.Points.{alphabet-length}
+use Rattle.constellation.specs.PointLaws.{alphabet-length}
 use Rattle.demap.specs.Nearest.{distSqr, pointAt}
 use Rattle.demap.specs.Candidates.{candidate}
 use Rattle.demap.specs.CandidateLaws.{candidate-is}

@@ -9,7 +9,7 @@ use lib.ListN.{length}
 use lib.Ieee.{Float, ofBits, div}
 use Rattle.complex.specs.declared.Complex.{Complex}
 use Rattle.constellation.specs.Alphabet.{alphabet, pointOf}
-use Rattle.constellation.specs.Points.{alphabet-length}
+use Rattle.constellation.specs.PointLaws.{alphabet-length}
 use Rattle.demap.specs.declared.Closest.{Closest}
 use Rattle.demap.specs.Nearest.{distSqr, pointAt, nearestOf, nearest}
 use Rattle.demap.specs.NearestLaws.{nearest-taken, nearest-left}

@@ -11,7 +11,8 @@ use Rattle.demap.specs.declared.Closest.{Closest}
 use Rattle.demap.specs.Nearest.{nearest}
 use Rattle.demap.specs.Soft.{softOf, softBit}
 use Rattle.demap.specs.PskLaws.{psk-label-below}
-use Rattle.demap.specs.Fill.{filledFrom, filled-from-step}
+use Rattle.demap.specs.Fill.{filledFrom}
+use Rattle.demap.specs.FillLaws.{filled-from-step}
 use Rattle.demap.proofs.soft_bits.Statement.{statement}
 use Rattle.demap.proofs.soft_bits.Tie as tie
 

@@ -3,7 +3,8 @@ use Prim.Native.Nat.{_-_, _≤_}
 use mathlib.Core.Path.{_≡_, refl, ap, ap₂, _∙_}
 use native.Mathlib.Omega.{arith}
 use lib.Ieee.{binary64, div}
-use Rattle.complex.specs.Sums.{fsumTo, fsum-step}
+use Rattle.complex.specs.Sums.{fsumTo}
+use Rattle.complex.specs.SumLaws.{fsum-step}
 use Rattle.complex.specs.Pairs.{cget}
 use Rattle.root.specs.Root.{normOf}
 use Rattle.demap.specs.Gain.{sumOfNorms, meanNorm}

@@ -6,7 +6,8 @@ use mathlib.Core.List.{List}
 use native.Mathlib.Omega.{arith}
 use lib.ListN.{length, getD}
 use lib.Ieee.{Float, binary64, div, lt}
-use Rattle.complex.specs.Sums.{fsumTo, fsum-step}
+use Rattle.complex.specs.Sums.{fsumTo}
+use Rattle.complex.specs.SumLaws.{fsum-step}
 use Rattle.complex.specs.Pairs.{cget}
 use Rattle.level.specs.Kept.{whole}
 use Rattle.eq.specs.Noise.{deviationOf, noiseOf}

@@ -1,7 +1,7 @@
 -- `filter::filter_carriers` meets its contract: with nothing new every track is as it was. Assumes nothing.
 use native.Mathlib.Omega.{arith}
 use borrow.Author.Needs.{needs}
-use Rattle.level.specs.Sized.{sized}
+use Rattle.level.specs.SizedLaws.{sized}
 use Rattle.filter.proofs.Carriers.{is-taps, all-made, filtered-none, spans-fit}
 use Rattle.filter.proofs.filter_carriers.Statement.{statement}
 use Rattle.filter.proofs.filter_carriers.Tie as tie

@@ -1,7 +1,7 @@
 -- `filter::filter_track` meets its contract: the sums over the turned samples are the filtered values. Assumes nothing.
 use native.Mathlib.Omega.{arith}
 use borrow.Author.Needs.{needs}
-use Rattle.level.specs.Sized.{sized}
+use Rattle.level.specs.SizedLaws.{sized}
 use Rattle.filter.proofs.Tracks.{sample-room, hz-most, track-filtered, filtered-append}
 use Rattle.filter.proofs.filter_track.Statement.{statement}
 use Rattle.filter.proofs.filter_track.Tie as tie

@@ -3,7 +3,8 @@ use Prim.Native.Nat.{_-_, _≤_}
 use mathlib.Core.Path.{_≡_, ap, _∙_}
 use native.Mathlib.Omega.{arith}
 use borrow.Author.Needs.{needs}
-use Rattle.complex.specs.Sums.{sumTo, sum-step}
+use Rattle.complex.specs.Sums.{sumTo}
+use Rattle.complex.specs.SumLaws.{sum-step}
 use Rattle.filter.specs.Carrier.{firAt, tapTerm}
 use Rattle.filter.proofs.fir_at.Statement.{statement}
 use Rattle.filter.proofs.fir_at.Tie as tie

@@ -5,7 +5,8 @@ use native.Mathlib.Omega.{arith}
 use borrow.Author.Needs.{needs}
 use Rattle.complex.specs.declared.Complex.{Complex}
 use Rattle.complex.specs.Arithmetic.{cadd}
-use Rattle.complex.specs.Sums.{sumTo, sum-step}
+use Rattle.complex.specs.Sums.{sumTo}
+use Rattle.complex.specs.SumLaws.{sum-step}
 use Rattle.filter.specs.Carrier.{firAt, tapTerm}
 use Rattle.filter.proofs.fir_four.Statement.{statement}
 use Rattle.filter.proofs.fir_four.Tie as tie

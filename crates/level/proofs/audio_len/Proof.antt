@@ -1,6 +1,6 @@
 -- `level::audio_len` meets its contract: the greatest stagger is at most 21. Assumes nothing.
 use Rattle.level.specs.Lengths.{audioLength}
-use Rattle.level.specs.Sized.{sized}
+use Rattle.level.specs.SizedLaws.{sized}
 use Rattle.level.proofs.audio_len.Statement.{statement}
 use Rattle.level.proofs.audio_len.Tie as tie
 

@@ -1,7 +1,7 @@
 -- `level::audio_of` meets its contract: four frames are short. Assumes nothing.
 use native.Mathlib.Omega.{arith}
 use borrow.Author.Needs.{needs}
-use Rattle.level.specs.Sized.{sized, row-most}
+use Rattle.level.specs.SizedLaws.{sized, row-most}
 use Rattle.level.proofs.audio_of.Statement.{statement}
 use Rattle.level.proofs.audio_of.Tie as tie
 

@@ -7,7 +7,7 @@ use Rattle.level.specs.declared.Layout.{Layout}
 use Rattle.level.specs.Layout.{stagger}
 use Rattle.level.specs.Lengths.{audioOf, carrierAudioLength}
 use Rattle.level.specs.Rows.{IsLayout}
-use Rattle.level.specs.Sized.{sized, stagger-within}
+use Rattle.level.specs.SizedLaws.{sized, stagger-within}
 use Rattle.level.proofs.carrier_audio_len.Statement.{statement}
 use Rattle.level.proofs.carrier_audio_len.Tie as tie
 

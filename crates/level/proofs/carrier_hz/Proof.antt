@@ -4,7 +4,7 @@ use native.Mathlib.Omega.{arith}
 use mathlib.Core.Path.{sym}
 use Rattle.level.specs.declared.Layout.{Layout}
 use Rattle.level.specs.Rows.{IsLayout}
-use Rattle.level.specs.Sized.{carriers-even, carrier-most}
+use Rattle.level.specs.SizedLaws.{carriers-even, carrier-most}
 use Rattle.level.proofs.carrier_hz.Statement.{statement}
 use Rattle.level.proofs.carrier_hz.Tie as tie
 

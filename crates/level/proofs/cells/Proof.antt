@@ -1,7 +1,7 @@
 -- `level::cells` meets its contract: a frame has more symbols than markers. Assumes nothing.
 use native.Mathlib.Omega.{arith}
 use Rattle.level.specs.Lengths.{cells}
-use Rattle.level.specs.Sized.{sized}
+use Rattle.level.specs.SizedLaws.{sized}
 use Rattle.level.proofs.cells.Statement.{statement}
 use Rattle.level.proofs.cells.Tie as tie
 

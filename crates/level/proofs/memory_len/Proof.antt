@@ -1,7 +1,7 @@
 -- `level::memory_len` meets its contract: no memory is above 1,378,560 complex numbers. Assumes nothing.
 use native.Mathlib.Omega.{arith}
 use Rattle.level.specs.Lengths.{memoryLength}
-use Rattle.level.specs.Sized.{sized}
+use Rattle.level.specs.SizedLaws.{sized}
 use Rattle.level.proofs.memory_len.Statement.{statement}
 use Rattle.level.proofs.memory_len.Tie as tie
 

@@ -5,7 +5,8 @@ use native.Mathlib.Omega.{arith}
 use borrow.Author.Needs.{needs}
 use Rattle.level.specs.declared.Layout.{Layout}
 use Rattle.level.specs.Layout.{firstHz, spacingHz, greatestStagger, layoutOf}
-use Rattle.level.specs.Even.{evenLevel, Sound, progression-length, progression-at}
+use Rattle.level.specs.Even.{evenLevel, Sound}
+use Rattle.level.proofs.Even.{progression-length, progression-at}
 use Rattle.level.proofs.psk.Statement.{statement}
 use Rattle.level.proofs.psk.Tie as tie
 

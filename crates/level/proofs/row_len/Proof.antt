@@ -1,7 +1,7 @@
 -- `level::row_len` meets its contract: four frames are short. Assumes nothing.
 use native.Mathlib.Omega.{arith}
 use Rattle.level.specs.Lengths.{rowLength}
-use Rattle.level.specs.Sized.{row-most}
+use Rattle.level.specs.SizedLaws.{row-most}
 use Rattle.level.proofs.row_len.Statement.{statement}
 use Rattle.level.proofs.row_len.Tie as tie
 

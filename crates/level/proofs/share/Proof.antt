@@ -8,7 +8,7 @@ use lib.Ieee.{Float, binary64, ofBits, ofInt, div, lt}
 use Rattle.level.specs.declared.Layout.{Layout}
 use Rattle.level.specs.Lengths.{cells, allCells}
 use Rattle.level.specs.Rows.{IsLayout}
-use Rattle.level.specs.Sized.{sized}
+use Rattle.level.specs.SizedLaws.{sized}
 use Rattle.level.specs.Kept.{whole, ratio, share}
 use Rattle.level.proofs.share.Statement.{statement}
 use Rattle.level.proofs.share.Tie as tie

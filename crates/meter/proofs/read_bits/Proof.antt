@@ -6,7 +6,8 @@ use native.Mathlib.Omega.{arith}
 use borrow.Author.Needs.{needs}
 use lib.ListN.{length, getD, set, length-set}
 use lib.Ieee.{Float, nan}
-use Rattle.complex.specs.Lists.{filled, filled-none, filled-step, filled-all}
+use Rattle.complex.specs.Lists.{filled}
+use Rattle.complex.specs.ListLaws.{filled-none, filled-step, filled-all}
 use Rattle.laws.specs.Tests.{signBit}
 use Rattle.meter.specs.PayloadBits.{readBits}
 use Rattle.meter.proofs.read_bits.Statement.{statement}

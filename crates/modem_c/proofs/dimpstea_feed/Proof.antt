@@ -16,7 +16,8 @@ use Rattle.refusal.specs.Outcome.{Outcome, refused, answered, andThen, judged}
 use Rattle.refusal.specs.Clear.{clear-first, clear-both}
 use Rattle.level.specs.declared.Layout.{Layout}
 use Rattle.level.specs.Layout.{layoutOf, chosen}
-use Rattle.level.specs.Rows.{IsLayout, is-layout, at-most}
+use Rattle.level.specs.Rows.{IsLayout}
+use Rattle.level.specs.RowLaws.{is-layout, at-most}
 use Rattle.dat.specs.Tables.{tableFault}
 use Rattle.hold.specs.declared.Release.{Release}
 use Rattle.hold.specs.Releases.{released}

@@ -13,8 +13,8 @@ use Rattle.level.specs.declared.Layout.{Layout}
 use Rattle.level.specs.declared.Chosen.{Chosen}
 use Rattle.level.specs.declared.Chosen.the-variants.{Psk, Refused}
 use Rattle.level.specs.Layout.{chosen, outcome}
-use Rattle.level.specs.Rows.{is-layout}
-use Rattle.level.specs.Sized.{sized}
+use Rattle.level.specs.RowLaws.{is-layout}
+use Rattle.level.specs.SizedLaws.{sized}
 use Rattle.dat.specs.Tables.{tableFault}
 use Rattle.modem_c.specs.ReadingCalls.{shortResult}
 use Rattle.modem_c.proofs.short_result.Statement.{statement}

@@ -1,5 +1,6 @@
 -- `nco::advance` meets its contract: the phases of the carriers passed are those after the window. Assumes nothing.
-use Rattle.complex.specs.Lists.{filled, filled-none}
+use Rattle.complex.specs.Lists.{filled}
+use Rattle.complex.specs.ListLaws.{filled-none}
 use Rattle.nco.specs.Phase.{carrierPhase}
 use Rattle.nco.specs.PhaseLaws.{phase-still, phases-turn, phases-done}
 use Prim.Native.Nat.{_-_, _≤_}

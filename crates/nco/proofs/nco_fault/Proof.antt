@@ -12,7 +12,7 @@ use borrow.Author.Tests.{eq-eqb, ne-eqb, lt-ltb, le-ltb}
 use Rattle.refusal.specs.declared.Refusal.the-variants.{Buffer, Window, Waves}
 use Rattle.refusal.specs.declared.Fault.the-variants.{Clear, Met}
 use Rattle.level.specs.declared.Layout.{Layout}
-use Rattle.level.specs.Sized.{sized}
+use Rattle.level.specs.SizedLaws.{sized}
 use Rattle.nco.specs.Nco.{wrongBuffers, wideWindow, wrongPhases, ncoFault}
 use Rattle.nco.proofs.nco_fault.Statement.{statement}
 use Rattle.nco.proofs.nco_fault.Tie as tie

@@ -7,7 +7,7 @@ use borrow.Author.Needs.{needs}
 use Rattle.refusal.specs.Outcome.{Outcome, answered}
 use Rattle.level.specs.declared.Layout.{Layout}
 use Rattle.level.specs.Layout.{outcome}
-use Rattle.level.specs.Rows.{is-layout}
+use Rattle.level.specs.RowLaws.{is-layout}
 use Rattle.nco.specs.declared.Answer.{Answer}
 use Rattle.nco.specs.Nco.{ncoAccepted, NcoPhase}
 use Rattle.nco.specs.WindowCall.{call-refused}

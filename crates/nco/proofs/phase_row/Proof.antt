@@ -4,7 +4,8 @@ use mathlib.Core.Path.{_≡_, refl, sym, ap, _∙_}
 use native.Mathlib.Omega.{arith}
 use lib.ListN.{length, set, length-set}
 use lib.Ieee.{Float, nan}
-use Rattle.complex.specs.Lists.{filled, filled-none, filled-step, filled-all}
+use Rattle.complex.specs.Lists.{filled}
+use Rattle.complex.specs.ListLaws.{filled-none, filled-step, filled-all}
 use Rattle.nco.specs.Phase.{phaseNext, phaseAfter}
 use Rattle.nco.specs.PhaseLaws.{phase-none, phase-step}
 use borrow.Author.Needs.{needs}

@@ -6,7 +6,8 @@ use native.Mathlib.Omega.{arith}
 use lib.ListN.{getD}
 use lib.Ieee.{nan, binary32, ofBits}
 use borrow.Author.Needs.{needs}
-use Rattle.refusal.specs.Any.{any, any-none, any-more, any-at, any-done}
+use Rattle.refusal.specs.Any.{any}
+use Rattle.refusal.specs.AnyLaws.{any-none, any-more, any-at, any-done}
 use Rattle.laws.specs.Tests.{inRange}
 use Rattle.taps.specs.PhaseSteps.{tau}
 use Rattle.nco.specs.Nco.{wrongPhases}

@@ -1,6 +1,6 @@
 -- `psk::drawn` meets its contract: the draw is a label. Assumes nothing.
 use native.Mathlib.Omega.{arith}
-use Rattle.level.specs.Sized.{sized}
+use Rattle.level.specs.SizedLaws.{sized}
 use borrow.Author.Needs.{needs}
 use Rattle.psk.proofs.drawn.Statement.{statement}
 use Rattle.psk.proofs.drawn.Tie as tie

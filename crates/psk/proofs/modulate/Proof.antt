@@ -12,7 +12,7 @@ use Rattle.level.specs.declared.Chosen.{Chosen}
 use Rattle.level.specs.declared.Chosen.the-variants.{Psk}
 use Rattle.level.specs.declared.Chosen.the-variants as Level
 use Rattle.level.specs.Layout.{chosen, outcome}
-use Rattle.level.specs.Rows.{is-layout}
+use Rattle.level.specs.RowLaws.{is-layout}
 use Rattle.psk.specs.declared.Sent.{Sent}
 use Rattle.psk.specs.declared.Sent.the-variants.{Refused}
 use Rattle.psk.specs.Symbols.{Sending}

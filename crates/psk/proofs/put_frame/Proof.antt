@@ -9,8 +9,8 @@ use lib.ListN.{length}
 use lib.Ieee.{Float}
 use Rattle.complex.specs.Pairs.{cget, cset}
 use Rattle.level.specs.declared.Layout.{Layout}
-use Rattle.level.specs.Sized.{sized}
-use Rattle.dat.specs.Accepted.{phasor-in}
+use Rattle.level.specs.SizedLaws.{sized}
+use Rattle.dat.specs.AcceptedLaws.{phasor-in}
 use Rattle.psk.specs.declared.Running.{Running}
 use Rattle.psk.specs.Symbols.{runningPoint, symbolOf, frameSymbol}
 use Rattle.psk.specs.Running.{runningAt, advanced, start-is, advanced-is}

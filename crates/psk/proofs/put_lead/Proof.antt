@@ -12,8 +12,8 @@ use Rattle.complex.specs.Pairs.{cget, cset}
 use Rattle.constellation.specs.Alphabet.{pointOf}
 use Rattle.level.specs.declared.Layout.{Layout}
 use Rattle.level.specs.Lengths.{rowLength}
-use Rattle.level.specs.Sized.{sized}
-use Rattle.dat.specs.Accepted.{phasor-in}
+use Rattle.level.specs.SizedLaws.{sized}
+use Rattle.dat.specs.AcceptedLaws.{phasor-in}
 use Rattle.psk.specs.Symbols.{leadPoint, symbolOf, leadSymbol}
 use Rattle.psk.specs.Written.{written, written-none, written-step, written-length, written-same}
 use Rattle.psk.specs.Accepted.{LeadReady}

@@ -7,7 +7,7 @@ use Rattle.refusal.specs.declared.Fault.{Fault}
 use Rattle.refusal.specs.declared.Fault.the-variants.{Clear, Met}
 use Rattle.refusal.specs.Outcome.{orElse}
 use Rattle.level.specs.declared.Layout.{Layout}
-use Rattle.level.specs.Sized.{sized}
+use Rattle.level.specs.SizedLaws.{sized}
 use Rattle.dat.specs.Tables.{tableFault}
 use Rattle.psk.specs.Symbols.{Sending}
 use Rattle.psk.specs.Send.{senderFault, sendFault}

@@ -10,7 +10,8 @@ use Rattle.refusal.specs.declared.Refusal.the-variants.{Frames, Payload, Draws,
 use Rattle.refusal.specs.declared.Fault.the-variants.{Clear, Met}
 use Rattle.level.specs.declared.Layout.{Layout}
 use Rattle.level.specs.Lengths.{rowLength}
-use Rattle.level.specs.Frames.{wrongFrames, frames-of}
+use Rattle.level.specs.Frames.{wrongFrames}
+use Rattle.level.specs.FramesLaws.{frames-of}
 use Rattle.psk.specs.Send.{wrongPayload, wrongDraws, wrongRows, senderFault}
 use Rattle.psk.specs.Accepted.{rows-right, rows-wrong}
 use Rattle.psk.specs.Places.{starts-small}

@@ -9,8 +9,8 @@ use Rattle.complex.specs.declared.Complex.{Complex}
 use Rattle.level.specs.declared.Layout.{Layout}
 use Rattle.level.specs.Lengths.{cells}
 use Rattle.level.specs.Rows.{IsLayout}
-use Rattle.level.specs.Sized.{sized}
-use Rattle.dat.specs.Accepted.{rows-small}
+use Rattle.level.specs.SizedLaws.{sized}
+use Rattle.dat.specs.AcceptedLaws.{rows-small}
 use Rattle.psk.specs.Symbols.{referencePoint}
 use Rattle.psk.specs.Running.{startOf}
 use Rattle.psk.proofs.start.Statement.{statement}

@@ -6,7 +6,8 @@ use native.Mathlib.Omega.{arith}
 use lib.Dec.{leb}
 use lib.ListN.{getD}
 use borrow.Author.Tests.{lt-leb}
-use Rattle.refusal.specs.Any.{any, any-none, any-more, any-done}
+use Rattle.refusal.specs.Any.{any}
+use Rattle.refusal.specs.AnyLaws.{any-none, any-more, any-done}
 use Rattle.psk.specs.Accepted.{bytes-uncounted, bytes-bad, bytes-right}
 use Rattle.psk.proofs.wrong_bytes.Statement.{statement}
 use Rattle.psk.proofs.wrong_bytes.Tie as tie

@@ -2,7 +2,7 @@
 use Prim.Native.Nat.{ℕ, _+_, _*_}
 use mathlib.Core.Path.{ap, _∙_}
 use native.Mathlib.Omega.{arith}
-use Rattle.level.specs.Sized.{sized}
+use Rattle.level.specs.SizedLaws.{sized}
 use Rattle.psk.specs.Send.{wrongBytes, wrongDraws}
 use Rattle.psk.specs.Places.{draws-small}
 use borrow.Author.Needs.{needs}

@@ -1,7 +1,7 @@
 -- `reading::decode` meets its contract: the steps, 24, the division, the noise and the soft bits, one after the other. Assumes nothing.
 use mathlib.Core.Path.{sym, _∙_}
 use Rattle.complex.specs.Pairs.{pairs}
-use Rattle.level.specs.Sized.{sized}
+use Rattle.level.specs.SizedLaws.{sized}
 use Rattle.reading.specs.DecodedLaws.{steps-fewer, scratch-room, gain-is, silent, sounded}
 use native.Mathlib.Omega.{arith}
 use borrow.Author.Needs.{needs}

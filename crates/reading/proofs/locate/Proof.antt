@@ -1,6 +1,6 @@
 -- `reading::locate` meets its contract: the layout's refusal, or the first fault of the rest, or what is found. Assumes nothing.
 use mathlib.Core.List.{[]}
-use Rattle.level.specs.Rows.{is-layout}
+use Rattle.level.specs.RowLaws.{is-layout}
 use Rattle.reading.specs.Read.{Asked, asked}
 use Rattle.reading.specs.Begun.{located-begun}
 use Rattle.reading.specs.CallLaws.{chosen-is, locate-fault-is, locate-none, locate-met, locate-clear}

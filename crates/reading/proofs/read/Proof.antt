@@ -1,5 +1,5 @@
 -- `reading::read` meets its contract: the layout's refusal, or the first fault up to 23, or the reading with 24. Assumes nothing.
-use Rattle.level.specs.Rows.{is-layout}
+use Rattle.level.specs.RowLaws.{is-layout}
 use Rattle.reading.specs.Read.{Asked, asked}
 use Rattle.reading.specs.Begun.{read-begun}
 use Rattle.reading.specs.CallLaws.{chosen-is, read-fault-is, read-none, read-met, read-clear}

@@ -7,8 +7,8 @@ use borrow.Author.Needs.{needs}
 use Rattle.level.specs.declared.Layout.{Layout}
 use Rattle.level.specs.Lengths.{rowLength}
 use Rattle.level.specs.Rows.{IsLayout}
-use Rattle.level.specs.Sized.{sized, carrier-most, stagger-within, row-most}
-use Rattle.dat.specs.Accepted.{row-in}
+use Rattle.level.specs.SizedLaws.{sized, carrier-most, stagger-within, row-most}
+use Rattle.dat.specs.AcceptedLaws.{row-in}
 use Rattle.replay_inputs.proofs.carrier_part.Statement.{statement}
 use Rattle.replay_inputs.proofs.carrier_part.Tie as tie
 

@@ -7,7 +7,8 @@ use borrow.Author.Needs.{needs}
 use lib.ListN.{length, length-set}
 use Rattle.level.specs.declared.Layout.{Layout}
 use Rattle.level.specs.Sized.{Sized}
-use Rattle.dat.specs.Accepted.{InTable, length-right, values-small, flags-small, value-in, flag-in}
+use Rattle.dat.specs.Accepted.{InTable}
+use Rattle.dat.specs.AcceptedLaws.{length-right, values-small, flags-small, value-in, flag-in}
 use Rattle.replay_inputs.proofs.mark.Statement.{statement}
 use Rattle.replay_inputs.proofs.mark.Tie as tie
 

@@ -2,7 +2,7 @@
 use mathlib.Core.Path.{sym, ap, _∙_}
 use native.Mathlib.Omega.{arith}
 use Rattle.level.specs.Layout.{outcome}
-use Rattle.level.specs.Rows.{is-layout}
+use Rattle.level.specs.RowLaws.{is-layout}
 use Rattle.replay_inputs.specs.Table.{entries-500-6, two-rows-500-6}
 use borrow.Author.Needs.{needs}
 use Rattle.replay_inputs.proofs.two_frames_500_6.Statement.{statement}

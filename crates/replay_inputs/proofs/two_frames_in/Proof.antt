@@ -1,6 +1,6 @@
 -- `replay_inputs::two_frames_in` is safe: tables and rows are as long as the layout asks. Assumes nothing.
 use native.Mathlib.Omega.{arith}
-use Rattle.level.specs.Sized.{sized}
+use Rattle.level.specs.SizedLaws.{sized}
 use borrow.Author.Needs.{needs}
 use Rattle.replay_inputs.proofs.two_frames_in.Statement.{statement}
 use Rattle.replay_inputs.proofs.two_frames_in.Tie as tie

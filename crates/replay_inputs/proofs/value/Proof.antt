@@ -5,7 +5,7 @@ use native.Mathlib.Omega.{arith}
 use borrow.Author.Needs.{needs}
 use Rattle.level.specs.declared.Layout.{Layout}
 use Rattle.level.specs.Sized.{Sized}
-use Rattle.dat.specs.Accepted.{row-in}
+use Rattle.dat.specs.AcceptedLaws.{row-in}
 use Rattle.replay_inputs.proofs.value.Statement.{statement}
 use Rattle.replay_inputs.proofs.value.Tie as tie
 

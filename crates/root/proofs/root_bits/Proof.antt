@@ -8,7 +8,8 @@ use lib.Dec.{lit≤, lit<}
 use lib.Pow.{pow-add, pow-pos, pow-mono}
 use lib.Ieee.{binary64, ofBits}
 use Rattle.root.specs.Root.{rootUnits, sqrtOf}
-use Rattle.root.specs.Squares.{IsRoot, root-lt, root-le, four-pow}
+use Rattle.root.specs.Squares.{root-lt, root-le, four-pow}
+use Rattle.root.specs.WholeRoot.{IsRoot}
 use Rattle.root.specs.RootUnits.{root-at}
 use Rattle.root.proofs.Patterns.{low-bits, high-bits, sqrt-odd, units-bits}
 use Rattle.root.proofs.root_bits.Statement.{statement}

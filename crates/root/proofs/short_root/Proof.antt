@@ -7,7 +7,7 @@ use native.Mathlib.Nat.{mul-add, add-mul, mul-comm, mul-left-comm, pow-succ', lt
 use native.Mathlib.Numerals.{add-one}
 use native.Mathlib.Omega.{arith}
 use lib.Pow.{pow-mono}
-use Rattle.root.specs.Squares.{RootRem}
+use Rattle.root.specs.WholeRoot.{RootRem}
 use Rattle.root.proofs.short_root.Statement.{statement}
 use Rattle.root.proofs.short_root.Tie as tie
 

@@ -17,10 +17,12 @@ use Rattle.level.specs.declared.Layout.{Layout}
 use Rattle.level.specs.declared.Chosen.{Chosen}
 use Rattle.level.specs.declared.Chosen.the-variants as level
 use Rattle.level.specs.Layout as Level
-use Rattle.level.specs.Rows.{IsLayout, is-layout}
-use Rattle.level.specs.Sized.{sized}
+use Rattle.level.specs.Rows.{IsLayout}
+use Rattle.level.specs.RowLaws.{is-layout}
+use Rattle.level.specs.SizedLaws.{sized}
 use Rattle.dat.specs.Tables.{tableFault}
-use Rattle.dat.specs.Accepted.{Markers, Phasors, tables-of}
+use Rattle.dat.specs.Accepted.{Markers, Phasors}
+use Rattle.dat.specs.AcceptedLaws.{tables-of}
 use Rattle.rx.specs.declared.State.{State}
 use Rattle.rx.specs.declared.FeedAnswer.the-variants.{Refused}
 use Rattle.rx.specs.Receiver.{fed}

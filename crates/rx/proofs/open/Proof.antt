@@ -15,8 +15,8 @@ use Rattle.level.specs.declared.Layout.{Layout}
 use Rattle.level.specs.declared.Chosen.{Chosen}
 use Rattle.level.specs.declared.Chosen.the-variants.{Psk, Refused}
 use Rattle.level.specs.Layout as Level
-use Rattle.level.specs.Rows.{is-layout}
-use Rattle.level.specs.Sized.{sized}
+use Rattle.level.specs.RowLaws.{is-layout}
+use Rattle.level.specs.SizedLaws.{sized}
 use Rattle.dat.specs.Tables.{tableFault}
 use Rattle.rx.specs.declared.State.{State}
 use Rattle.rx.specs.Conditions.{wrongStart}

@@ -5,7 +5,7 @@ use mathlib.Core.List.{List}
 use native.Mathlib.Omega.{arith}
 use lib.Ieee.{Float}
 use Rattle.level.specs.declared.Layout.{Layout}
-use Rattle.level.specs.Sized.{sized}
+use Rattle.level.specs.SizedLaws.{sized}
 use Rattle.hold.specs.declared.Offered.{Offered}
 use Rattle.search.specs.Search.{searchCount}
 use Rattle.search.specs.Chi.{Tables}

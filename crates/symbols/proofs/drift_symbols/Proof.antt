@@ -4,9 +4,9 @@ use mathlib.Core.Path.{_≡_, ap, _∙_}
 use native.Mathlib.Omega.{arith}
 use borrow.Author.Needs.{needs}
 use lib.ListN.{length}
-use Rattle.complex.specs.Pairs.{cfilled-length}
-use Rattle.level.specs.Sized.{sized}
-use Rattle.dat.specs.Accepted.{row-in}
+use Rattle.complex.specs.PairLaws.{cfilled-length}
+use Rattle.level.specs.SizedLaws.{sized}
+use Rattle.dat.specs.AcceptedLaws.{row-in}
 use Rattle.eq.specs.Fill.{Filling, filling-all}
 use Rattle.symbols.specs.Standing.{driftIth}
 use Rattle.symbols.specs.DriftLaws.{row-most}

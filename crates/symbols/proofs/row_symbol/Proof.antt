@@ -4,8 +4,8 @@ use mathlib.Core.Path.{ap, ap₂, _∙_}
 use native.Mathlib.Omega.{arith}
 use borrow.Author.Needs.{needs}
 use Rattle.complex.specs.Arithmetic.{cmul}
-use Rattle.level.specs.Sized.{sized}
-use Rattle.dat.specs.Accepted.{row-in, phasor-in}
+use Rattle.level.specs.SizedLaws.{sized}
+use Rattle.dat.specs.AcceptedLaws.{row-in, phasor-in}
 use Rattle.filter.specs.Carrier.{firAt}
 use Rattle.symbols.specs.DriftLaws.{entries-few, row-most}
 use Rattle.symbols.proofs.row_symbol.Statement.{statement}

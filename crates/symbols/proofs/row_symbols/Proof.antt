@@ -3,8 +3,8 @@ use Prim.Native.Nat.{_-_, _*_, _≤_}
 use mathlib.Core.Path.{_≡_, ap, _∙_}
 use native.Mathlib.Omega.{arith}
 use lib.ListN.{length}
-use Rattle.level.specs.Sized.{sized}
-use Rattle.dat.specs.Accepted.{row-in, rows-small}
+use Rattle.level.specs.SizedLaws.{sized}
+use Rattle.dat.specs.AcceptedLaws.{row-in, rows-small}
 use Rattle.symbols.specs.Standing.{rowSymbol, storedFrom}
 use Rattle.symbols.specs.StoredLaws.{stored-none, stored-more, stored-length}
 use Rattle.symbols.proofs.row_symbols.Statement.{statement}

@@ -1,7 +1,7 @@
 -- `symbols::symbol` meets its contract: the filtered value times its phasor. Assumes nothing.
 use native.Mathlib.Omega.{arith}
 use borrow.Author.Needs.{needs}
-use Rattle.dat.specs.Accepted.{count-is}
+use Rattle.dat.specs.AcceptedLaws.{count-is}
 use Rattle.symbols.specs.SymbolLaws.{numbered, filtered-ith}
 use Rattle.symbols.proofs.symbol.Statement.{statement}
 use Rattle.symbols.proofs.symbol.Tie as tie

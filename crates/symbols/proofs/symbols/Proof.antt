@@ -6,12 +6,13 @@ use native.Mathlib.Omega.{arith}
 use borrow.Author.Needs.{needs}
 use lib.ListN.{length}
 use lib.Ieee.{Float, nan}
-use Rattle.complex.specs.Lists.{filled, filled-at, filled-length}
+use Rattle.complex.specs.Lists.{filled}
+use Rattle.complex.specs.ListLaws.{filled-at, filled-length}
 use Rattle.complex.specs.Pairs.{parts}
 use Rattle.level.specs.declared.Layout.{Layout}
 use Rattle.level.specs.Layout.{pulseOf}
 use Rattle.level.specs.Rows.{IsLayout}
-use Rattle.level.specs.Sized.{sized}
+use Rattle.level.specs.SizedLaws.{sized}
 use Rattle.taps.specs.Taps.{receiverTap}
 use Rattle.filter.specs.Carrier.{IsTaps}
 use Rattle.symbols.specs.SymbolLaws.{by-filtered, by-drift}

@@ -5,8 +5,8 @@ use native.Mathlib.Omega.{arith}
 use borrow.Author.Needs.{needs}
 use Rattle.complex.specs.Arithmetic.{cmul}
 use Rattle.complex.specs.Pairs.{cget}
-use Rattle.level.specs.Sized.{sized}
-use Rattle.dat.specs.Accepted.{row-in}
+use Rattle.level.specs.SizedLaws.{sized}
+use Rattle.dat.specs.AcceptedLaws.{row-in}
 use Rattle.eq.specs.Fill.{Filling, filling-none, filling-more}
 use Rattle.symbols.specs.Symbols.{driftLength}
 use Rattle.symbols.specs.Standing.{samplesIn, turnedAt}

@@ -5,10 +5,11 @@ use native.Mathlib.Omega.{arith}
 use borrow.Author.Needs.{needs}
 use lib.ListN.{length, length-set}
 use lib.Ieee.{Float, nan, binary64, div}
-use Rattle.complex.specs.Lists.{filled, filled-none, filled-step}
+use Rattle.complex.specs.Lists.{filled}
+use Rattle.complex.specs.ListLaws.{filled-none, filled-step}
 use Rattle.level.specs.Level.{Pulse}
 use Rattle.level.specs.Layout.{pulseOf}
-use Rattle.level.specs.Sized.{sized, pulse-taps}
+use Rattle.level.specs.SizedLaws.{sized, pulse-taps}
 use Rattle.taps.specs.Taps.{tap, tapSum, receiverTap}
 use Rattle.taps.proofs.receiver_taps.Statement.{statement}
 use Rattle.taps.proofs.receiver_taps.Tie as tie

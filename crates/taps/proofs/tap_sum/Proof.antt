@@ -4,7 +4,8 @@ use mathlib.Core.Path.{_≡_, refl, sym, ap, _∙_}
 use native.Mathlib.Omega.{arith}
 use borrow.Author.Needs.{needs}
 use lib.Ieee.{Float, binary64, add}
-use Rattle.complex.specs.Sums.{fsumTo, fsum-step}
+use Rattle.complex.specs.Sums.{fsumTo}
+use Rattle.complex.specs.SumLaws.{fsum-step}
 use Rattle.level.specs.Level.{Pulse}
 use Rattle.level.specs.Layout.{tapCount, pulseOf}
 use Rattle.taps.specs.Taps.{tap, tapSum}

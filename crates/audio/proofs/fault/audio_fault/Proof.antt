@@ -11,7 +11,8 @@ use borrow.Author.Tests.{eq-eqb, ne-eqb}
 use Rattle.refusal.specs.declared.Refusal.the-variants.{Frames, Buffer, Symbols, Window, Waves}
 use Rattle.refusal.specs.declared.Fault.the-variants.{Clear, Met}
 use Rattle.level.specs.declared.Layout.{Layout}
-use Rattle.level.specs.Frames.{wrongFrames, frames-of}
+use Rattle.level.specs.Frames.{wrongFrames}
+use Rattle.level.specs.FramesLaws.{frames-of}
 use Rattle.audio.specs.CarrierAudio.{wrongBuffers, wrongSymbols, wrongWindow, wrongWaves, audioFault}
 use Rattle.audio.proofs.Accepted.{window-is}
 use Rattle.audio.proofs.fault.audio_fault.Statement.{statement}

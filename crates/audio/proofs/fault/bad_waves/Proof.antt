@@ -6,7 +6,8 @@ use native.Mathlib.Omega.{arith}
 use lib.ListN.{length, getD}
 use lib.Ieee.{nan}
 use borrow.Author.Needs.{needs}
-use Rattle.refusal.specs.Any.{any, any-none, any-more, any-at, any-done}
+use Rattle.refusal.specs.Any.{any}
+use Rattle.refusal.specs.AnyLaws.{any-none, any-more, any-at, any-done}
 use Rattle.laws.specs.Tests.{inSize}
 use Rattle.audio.specs.CarrierAudio.{waveBound}
 use Rattle.audio.proofs.fault.bad_waves.Statement.{statement}

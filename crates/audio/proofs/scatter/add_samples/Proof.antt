@@ -6,7 +6,8 @@ use native.Mathlib.Omega.{arith}
 use lib.ListN.{length, getD, set, length-set}
 use lib.Ieee.{Float, nan, binary64, add}
 use borrow.Author.Needs.{needs}
-use Rattle.complex.specs.Lists.{filled, filled-none, filled-step}
+use Rattle.complex.specs.Lists.{filled}
+use Rattle.complex.specs.ListLaws.{filled-none, filled-step}
 use Rattle.complex.specs.Pairs.{cget}
 use Rattle.nco.specs.Rows.{filled-rest}
 use Rattle.audio.specs.Audio.{sample}

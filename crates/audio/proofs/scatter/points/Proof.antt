@@ -5,7 +5,8 @@ use native.Mathlib.Omega.{arith}
 use lib.ListN.{length}
 use borrow.Author.Needs.{needs}
 use Rattle.complex.specs.declared.Complex.{Complex}
-use Rattle.complex.specs.Pairs.{cset, cfilled, cfilled-none, cfilled-step}
+use Rattle.complex.specs.Pairs.{cset, cfilled}
+use Rattle.complex.specs.PairLaws.{cfilled-none, cfilled-step}
 use Rattle.audio.specs.Parts.{pointOf}
 use Rattle.audio.proofs.scatter.points.Statement.{statement}
 use Rattle.audio.proofs.scatter.points.Tie as tie

@@ -1,7 +1,7 @@
 -- `audio::window::add_through` meets its contract: the points that the window needs, and the samples made of them. Assumes nothing.
 use mathlib.Core.Path.{_≡_, ap, _∙_}
 use lib.ListN.{length}
-use Rattle.complex.specs.Lists.{length-tabulate}
+use Rattle.complex.specs.ListLaws.{length-tabulate}
 use Rattle.taps.specs.Interp.{interpTap}
 use native.Mathlib.Omega.{arith}
 use borrow.Author.Needs.{needs}

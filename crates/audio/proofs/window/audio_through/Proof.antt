@@ -6,7 +6,8 @@ use lib.ListN.{length}
 use lib.Ieee.{Float}
 use borrow.Author.Needs.{needs}
 use Rattle.complex.specs.Arithmetic.{fzero}
-use Rattle.complex.specs.Lists.{tabulate, filled, filled-all}
+use Rattle.complex.specs.Lists.{tabulate, filled}
+use Rattle.complex.specs.ListLaws.{filled-all}
 use Rattle.audio.specs.Audio.{audioWindow, lentWave}
 use Rattle.audio.proofs.window.audio_through.Statement.{statement}
 use Rattle.audio.proofs.window.audio_through.Tie as tie

@@ -1,7 +1,7 @@
 -- `audio::window::audio_window` meets its contract: local rows hold the taps. Assumes nothing.
 use native.Mathlib.Omega.{arith}
 use borrow.Author.Needs.{needs}
-use Rattle.level.specs.Sized.{sized}
+use Rattle.level.specs.SizedLaws.{sized}
 use Rattle.audio.proofs.window.audio_window.Statement.{statement}
 use Rattle.audio.proofs.window.audio_window.Tie as tie
 

@@ -5,7 +5,8 @@ use native.Mathlib.Omega.{arith}
 use lib.ListN.{length, length-set}
 use lib.Ieee.{nan}
 use Rattle.complex.specs.Arithmetic.{fzero}
-use Rattle.complex.specs.Lists.{filled, filled-none, filled-step, filled-all}
+use Rattle.complex.specs.Lists.{filled}
+use Rattle.complex.specs.ListLaws.{filled-none, filled-step, filled-all}
 use Rattle.audio.proofs.window.clear.Statement.{statement}
 use Rattle.audio.proofs.window.clear.Tie as tie
 

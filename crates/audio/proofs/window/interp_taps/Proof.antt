@@ -5,7 +5,8 @@ use native.Mathlib.Omega.{arith}
 use lib.ListN.{length, set, length-set}
 use lib.Ieee.{nan}
 use borrow.Author.Needs.{needs}
-use Rattle.complex.specs.Lists.{tabulate, filled, filled-none, filled-step, filled-all}
+use Rattle.complex.specs.Lists.{tabulate, filled}
+use Rattle.complex.specs.ListLaws.{filled-none, filled-step, filled-all}
 use Rattle.taps.specs.Interp.{interpTap}
 use Rattle.audio.proofs.window.interp_taps.Statement.{statement}
 use Rattle.audio.proofs.window.interp_taps.Tie as tie

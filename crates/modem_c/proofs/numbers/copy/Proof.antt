@@ -4,7 +4,8 @@ use mathlib.Core.Path.{_≡_, refl, sym, ap, _∙_}
 use mathlib.Core.List.{List}
 use native.Mathlib.Omega.{arith}
 use lib.ListN.{length, getD, length-set}
-use Rattle.complex.specs.Lists.{tabulate, filled, filled-none, filled-step, filled-all, tabulate-getD}
+use Rattle.complex.specs.Lists.{tabulate, filled}
+use Rattle.complex.specs.ListLaws.{filled-none, filled-step, filled-all, tabulate-getD}
 use Rattle.modem_c.proofs.numbers.copy.Statement.{statement}
 use Rattle.modem_c.proofs.numbers.copy.Tie as tie
 

@@ -4,7 +4,8 @@ use mathlib.Core.Path.{_≡_, sym, ap, _∙_}
 use mathlib.Core.Bool.{false, not}
 use lib.ListN.{length, getD}
 use lib.Ieee.{nan, neg}
-use Rattle.refusal.specs.Any.{any, any-none, any-more, any-at, any-done}
+use Rattle.refusal.specs.Any.{any}
+use Rattle.refusal.specs.AnyLaws.{any-none, any-more, any-at, any-done}
 use Rattle.laws.specs.Tests.{inRange}
 use Rattle.rx.specs.Conditions.{one}
 use borrow.Author.Needs.{needs}

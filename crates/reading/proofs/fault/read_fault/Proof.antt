@@ -4,7 +4,7 @@ use Rattle.refusal.specs.declared.Refusal.{Refusal}
 use Rattle.refusal.specs.declared.Fault.{Fault}
 use Rattle.refusal.specs.declared.Fault.the-variants.{Clear, Met}
 use Rattle.refusal.specs.Outcome.{orElse}
-use Rattle.level.specs.Sized.{sized}
+use Rattle.level.specs.SizedLaws.{sized}
 use borrow.Author.Needs.{needs}
 use Rattle.reading.proofs.fault.read_fault.Statement.{statement}
 use Rattle.reading.proofs.fault.read_fault.Tie as tie

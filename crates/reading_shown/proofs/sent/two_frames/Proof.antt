@@ -1,7 +1,7 @@
 -- `reading_shown::sent::two_frames` is safe: the sizes of the layout 500/4 are counted. Assumes nothing.
 use mathlib.Core.Path.{sym, ap, _∙_}
 use Rattle.level.specs.Layout.{outcome}
-use Rattle.level.specs.Rows.{is-layout}
+use Rattle.level.specs.RowLaws.{is-layout}
 use Rattle.replay_inputs.specs.Table.{entries-500-4, two-rows-500-4}
 use native.Mathlib.Omega.{arith}
 use borrow.Author.Needs.{needs}

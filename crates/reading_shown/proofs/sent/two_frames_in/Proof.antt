@@ -1,5 +1,5 @@
 -- `reading_shown::sent::two_frames_in` is safe: tables and rows are as long as the layout asks. Assumes nothing.
-use Rattle.level.specs.Sized.{sized}
+use Rattle.level.specs.SizedLaws.{sized}
 use native.Mathlib.Omega.{arith}
 use borrow.Author.Needs.{needs}
 use Rattle.reading_shown.proofs.sent.two_frames_in.Statement.{statement}

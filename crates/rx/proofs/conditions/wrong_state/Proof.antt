@@ -8,7 +8,7 @@ use lib.Dec.{eqb}
 use borrow.Author.Tests.{eq-eqb, ne-eqb}
 use Rattle.level.specs.declared.Layout.{Layout}
 use Rattle.level.specs.Lengths.{memoryLength}
-use Rattle.level.specs.Sized.{sized}
+use Rattle.level.specs.SizedLaws.{sized}
 use Rattle.rx.specs.Near.{near}
 use Rattle.rx.specs.Conditions.{otherLayout, wrongHold, longTracks, farPositions, unequalTracks, wrongEnd, lateSamples, unsearched, wrongHeld, wrongState}
 use borrow.Author.Needs.{needs}

@@ -4,7 +4,7 @@ use Rattle.refusal.specs.declared.Refusal.{Refusal}
 use Rattle.refusal.specs.declared.Fault.{Fault}
 use Rattle.refusal.specs.declared.Fault.the-variants.{Clear, Met}
 use Rattle.refusal.specs.Outcome.{orElse}
-use Rattle.level.specs.Sized.{sized}
+use Rattle.level.specs.SizedLaws.{sized}
 use Rattle.rx.specs.Open.{openFault}
 use borrow.Author.Needs.{needs}
 use Rattle.rx.proofs.fault.open_fault.Statement.{statement}

@@ -7,7 +7,8 @@ use native.Mathlib.Omega.{arith}
 use lib.ListN.{length, getD}
 use lib.Ieee.{Float, nan, neg}
 use borrow.Author.Tests.{eq-eqb, ne-eqb}
-use Rattle.refusal.specs.Any.{any, any-none, any-more, any-at, any-done}
+use Rattle.refusal.specs.Any.{any}
+use Rattle.refusal.specs.AnyLaws.{any-none, any-more, any-at, any-done}
 use Rattle.laws.specs.Tests.{inRange}
 use Rattle.rx.specs.Conditions.{wrongBook, one}
 use borrow.Author.Needs.{needs}

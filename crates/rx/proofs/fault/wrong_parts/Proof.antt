@@ -5,7 +5,8 @@ use mathlib.Core.Bool.{false, not}
 use native.Mathlib.Omega.{arith}
 use lib.ListN.{length, getD}
 use lib.Ieee.{nan}
-use Rattle.refusal.specs.Any.{any, any-none, any-more, any-at, any-done}
+use Rattle.refusal.specs.Any.{any}
+use Rattle.refusal.specs.AnyLaws.{any-none, any-more, any-at, any-done}
 use Rattle.laws.specs.Tests.{inSize}
 use Rattle.rx.specs.Conditions.{wrongParts, largest}
 use borrow.Author.Needs.{needs}
