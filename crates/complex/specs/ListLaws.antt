@@ -1,5 +1,5 @@
 -- What loops cite of such lists. Assumes nothing.
-use Prim.Native.Nat.{ℕ, zero, suc, _+_, _-_, _<_, _≤_}
+use Prim.Native.Nat.{ℕ, zero, suc, _+_, _<_, _≤_}
 use mathlib.Core.Path.{_≡_, refl, sym, _∙_}
 use mathlib.Core.List.{List, [], _∷_, append-assoc, append-nil}
 use mathlib.Core.Logic.{⊎-elim}
@@ -38,7 +38,8 @@ tabulate-ext f g (suc n) h =
 pub tabulate-getD {ℓ} : {A : Type ℓ} (l : List A) (d : A) → tabulate (λ (k : ℕ). getD l k d) (length l) ≡ l
 tabulate-getD l d =
     ext-getD d (tabulate (λ (k : ℕ). getD l k d) (length l)) l (length-tabulate (λ (k : ℕ). getD l k d) (length l))
-    (λ k h. getD-tabulate (λ (k : ℕ). getD l k d) (length l) k d (rw (length-tabulate (λ (k : ℕ). getD l k d) (length l)) at h))
+    (λ k h. getD-tabulate (λ (k : ℕ). getD l k d) (length l) k d
+    (rw (length-tabulate (λ (k : ℕ). getD l k d) (length l)) at h))
 
 -- ---- a loop that fills a slice: before it, a turn of it, after it
 pub filled-none {ℓ} : {A : Type ℓ} (f : ℕ → A) (l : List A) → l ≡ filled f 0 l
@@ -54,7 +55,8 @@ pub filled-step {ℓ} : {A : Type ℓ} (f : ℕ → A) (n : ℕ) (l m : List A) 
 unfolding filled tabulate
 filled-step f n l m d e h =
     rw (e, drop-cons l n d h, add-one n)
-    (set-at (tabulate f n) (getD l n d) (drop (suc n) l) (f n) n (length-tabulate f n) ∙ sym (append-assoc (tabulate f n) (f n ∷ []) (drop (suc n) l)))
+    (set-at (tabulate f n) (getD l n d) (drop (suc n) l) (f n) n (length-tabulate f n) ∙ sym
+    (append-assoc (tabulate f n) (f n ∷ []) (drop (suc n) l)))
 
 pub filled-at {ℓ} : {A : Type ℓ} (f : ℕ → A) (n k : ℕ) (l : List A) (d : A) → k < n → getD (filled f n l) k d ≡ f k
 unfolding filled

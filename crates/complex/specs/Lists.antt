@@ -1,5 +1,5 @@
 -- Lists made from a function of the index, and slices whose first entries are written by one. Definitions only.
-use Prim.Native.Nat.{ℕ, zero, suc, _+_}
+use Prim.Native.Nat.{ℕ, zero, suc}
 use mathlib.Core.List.{List, [], _∷_, _++_}
 use lib.ListN.{drop}
 

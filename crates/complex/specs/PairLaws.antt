@@ -75,7 +75,14 @@ cfilled-none f l = refl
 pub cfilled-length : (f : ℕ → Complex) (n : ℕ) (l : List Float) → 2 * n ≤ length l → length (cfilled f n l) ≡ length l
 unfolding cfilled
 cfilled-length f n l h =
-    omega (arith, length-append (parts (tabulate f n)) (drop (2 * n) l), length-parts (tabulate f n), length-tabulate f n, length-drop (2 * n) l)
+    omega (
+      arith,
+      length-append (parts (tabulate f n)) (drop (2 * n) l),
+      length-parts
+          (tabulate f n),
+      length-tabulate f n,
+      length-drop (2 * n) l,
+    )
 
 -- a turn of a loop that fills a slice: the store of f n
 pub cfilled-step : (f : ℕ → Complex) (n : ℕ) (l m : List Float) → m ≡ cfilled f n l → 2 * n + 1 < length l
@@ -87,19 +94,22 @@ cfilled-step f n l m e h =
     let rest : List Float = drop (suc (suc (2 * n))) l in
     let len : length p ≡ 2 * n = length-parts (tabulate f n) ∙ ap (λ (k : ℕ). 2 * k) (length-tabulate f n) in
     let two : drop (2 * n) l ≡ getD l (2 * n) nan ∷ getD l (suc (2 * n)) nan ∷ rest =
-    drop-cons l (2 * n) nan (omega arith) ∙ ap (λ (r : List Float). getD l (2 * n) nan ∷ r) (drop-cons l (suc (2 * n)) nan (omega arith)) in
+    drop-cons l (2 * n) nan (omega arith) ∙ ap (λ (r : List Float). getD l (2 * n) nan ∷ r)
+    (drop-cons l (suc (2 * n)) nan (omega arith)) in
     let len2 : length (p ++ (z .re ∷ [])) ≡ 2 * n + 1 = omega (arith, length-append p (z .re ∷ [])) in
     let g : 2 * suc n ≡ suc (suc (2 * n)) = omega arith in
     rw (e, two, add-one n, g)
     (ap (λ (r : List Float). set r (2 * n + 1) (z .im)) (set-at p _ _ (z .re) (2 * n) len)
-    ∙ ap (λ (r : List Float). set r (2 * n + 1) (z .im)) (sym (append-snoc p (z .re) (getD l (suc (2 * n)) nan ∷ rest)))
+    ∙ ap (λ (r : List Float). set r (2 * n + 1) (z .im))
+    (sym (append-snoc p (z .re) (getD l (suc (2 * n)) nan ∷ rest)))
     ∙ set-at (p ++ (z .re ∷ [])) (getD l (suc (2 * n)) nan) rest (z .im) (2 * n + 1) len2
     ∙ rw parts-append (simp append-assoc))
 
 pub cget-front : (a b : List Float) (k : ℕ) → 2 * k + 1 < length a → cget (a ++ b) k ≡ cget a k
 cget-front a b k h =
     let e : getD (a ++ b) (2 * k) nan ≡ getD a (2 * k) nan = List·getD-append a b nan (2 * k) (omega arith) in
-    let g : getD (a ++ b) (2 * k + 1) nan ≡ getD a (2 * k + 1) nan = List·getD-append a b nan (2 * k + 1) (omega arith) in
+    let g : getD (a ++ b) (2 * k + 1) nan ≡ getD a (2 * k + 1) nan =
+    List·getD-append a b nan (2 * k + 1) (omega arith) in
     simp (e, g)
 
 -- a number of a cfilled slice
@@ -108,19 +118,22 @@ unfolding cfilled
 cfilled-at f n k l h =
     let a : List Float = parts (tabulate f n) in
     let len : length a ≡ 2 * n = length-parts (tabulate f n) ∙ ap (λ (k : ℕ). 2 * k) (length-tabulate f n) in
-    cget-front a (drop (2 * n) l) k (omega arith) ∙ sym (getD-pairs a k (omega arith)) ∙ rw pairs-parts (getD-tabulate f n k (cx nan nan) h)
+    cget-front a (drop (2 * n) l) k (omega arith) ∙ sym (getD-pairs a k (omega arith)) ∙ rw pairs-parts
+    (getD-tabulate f n k (cx nan nan) h)
 
 pub cfilled-pairs : (f : ℕ → Complex) (n : ℕ) (l : List Float) → pairs (take (2 * n) (cfilled f n l)) ≡ tabulate f n
 unfolding cfilled
 cfilled-pairs f n l =
-    let len : length (parts (tabulate f n)) ≡ 2 * n = length-parts (tabulate f n) ∙ ap (λ (k : ℕ). 2 * k) (length-tabulate f n) in
+    let len : length (parts (tabulate f n)) ≡ 2 * n =
+    length-parts (tabulate f n) ∙ ap (λ (k : ℕ). 2 * k) (length-tabulate f n) in
     rw (take-at (parts (tabulate f n)) (drop (2 * n) l) (2 * n) len) (pairs-parts (tabulate f n))
 
 pub complexes-length : (xs : List Float) (off n : ℕ) → length (complexes xs off n) ≡ n
 unfolding complexes
 complexes-length xs off n = length-tabulate (λ k. cget xs (off + k)) n
 
-pub complexes-at : (xs : List Float) (off n k : ℕ) (d : Complex) → k < n → getD (complexes xs off n) k d ≡ cget xs (off + k)
+pub complexes-at : (xs : List Float) (off n k : ℕ) (d : Complex) → k < n → getD (complexes xs off n) k d
+    ≡ cget xs (off + k)
 unfolding complexes
 complexes-at xs off n k d h = getD-tabulate (λ k. cget xs (off + k)) n k d h
 
@@ -132,6 +145,7 @@ parts-at f n k h =
     sym (getD-pairs xs k (omega arith)) ∙ rw pairs-parts (getD-tabulate f n k (cx nan nan) h)
 
 -- a number of a list of parts
-pub pair-at : (n : ℕ) (xs : List Float) (k : ℕ) (d : Complex) → length xs ≡ 2 * n → k < n → cget xs k ≡ getD (pairs xs) k d
+pub pair-at : (n : ℕ) (xs : List Float) (k : ℕ) (d : Complex) → length xs ≡ 2 * n → k < n → cget xs k
+    ≡ getD (pairs xs) k d
 pair-at n xs k d e h =
     sym (getD-pairs xs k (omega arith)) ∙ getD-default (pairs xs) k (cx nan nan) d (rw (length-pairs n xs e) h)

@@ -1,4 +1,5 @@
-// Complex numbers of two f64 parts (01, "Records and number forms"): by value, and as two f64 of a lent slice, real first.
+// Complex numbers of two f64 parts (01, "Records and number forms"): by value, and as two f64 of a lent slice, real
+// first.
 ghost use mathlib.Core.Path.{_≡_};
 ghost use Prim.Native.Nat.{_+_, _*_, _<_};
 ghost use lib.ListN.{length};

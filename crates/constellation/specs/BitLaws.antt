@@ -30,7 +30,8 @@ label-below payload at (suc n) h =
     omega (arith, pow-succ' 2 n, label-below payload at n (λ i l. h i (omega arith)), h n (omega arith))
 
 -- bit b of the label is the payload's
-pub label-bit : (payload : List ℕ) (at n b : ℕ) → Bits payload at n → b < n → labelBit n b (labelAt payload at n) ≡ getD payload (at + b) 0
+pub label-bit : (payload : List ℕ) (at n b : ℕ) → Bits payload at n → b < n → labelBit n b (labelAt payload at n)
+    ≡ getD payload (at + b) 0
 unfolding labelAt
 label-bit payload at zero b h l = absurd (omega arith)
 label-bit payload at (suc n) b h l =
@@ -43,7 +44,8 @@ label-bit payload at (suc n) b h l =
     (eq-or-lt-of-le (le-of-suc-le-suc l))
 
 -- ---- equal bits, equal labels
-pub label-ext : (p q : List ℕ) (a b n : ℕ) → ((i : ℕ) → i < n → getD p (a + i) 0 ≡ getD q (b + i) 0) → labelAt p a n ≡ labelAt q b n
+pub label-ext : (p q : List ℕ) (a b n : ℕ) → ((i : ℕ) → i < n → getD p (a + i) 0 ≡ getD q (b + i) 0) → labelAt p a n
+    ≡ labelAt q b n
 unfolding labelAt
 label-ext p q a b zero h = refl
 label-ext p q a b (suc n) h =
@@ -52,7 +54,8 @@ label-ext p q a b (suc n) h =
     cc
 
 -- equal labels, equal bits
-pub label-same : (p q : List ℕ) (a b n : ℕ) → Bits p a n → Bits q b n → labelAt p a n ≡ labelAt q b n → (i : ℕ) → i < n → getD p (a + i) 0 ≡ getD q (b + i) 0
+pub label-same : (p q : List ℕ) (a b n : ℕ) → Bits p a n → Bits q b n → labelAt p a n ≡ labelAt q b n → (i : ℕ) → i < n
+    → getD p (a + i) 0 ≡ getD q (b + i) 0
 label-same p q a b n h k e i l = sym (label-bit p a n i h l) ∙ ap (labelBit n i) e ∙ label-bit q b n i k l
 
 -- labels of w bits that agree in each

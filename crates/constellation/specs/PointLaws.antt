@@ -27,23 +27,27 @@ all-at : (f : ℕ → Bool) (n k : ℕ) → T (allBelow f n) → k < n → T (f 
 unfolding allBelow
 all-at f zero k h l = absurd (not-suc-le-zero l)
 all-at f (suc n) k h l =
-    ⊎-elim (λ e. rw e (and-r (allBelow f n) (f n) h)) (λ g. all-at f n k (and-l (allBelow f n) (f n) h) g) (eq-or-lt-of-le (le-of-suc-le-suc l))
+    ⊎-elim (λ e. rw e (and-r (allBelow f n) (f n) h)) (λ g. all-at f n k (and-l (allBelow f n) (f n) h) g)
+    (eq-or-lt-of-le (le-of-suc-le-suc l))
 
 -- the point of b is that of a only where b is a
 unlessSame : ℕ → ℕ → ℕ → Bool
 unlessSame w a b = not (sameNumber (pointOf w a) (pointOf w b)) || eqb a b
 
-apart : (w : ℕ) → T (allBelow (λ a. allBelow (unlessSame w a) (2 ^ w)) (2 ^ w)) → (a b : ℕ) → a < 2 ^ w → b < 2 ^ w → T (sameNumber (pointOf w a) (pointOf w b)) → a ≡ b
+apart : (w : ℕ) → T (allBelow (λ a. allBelow (unlessSame w a) (2 ^ w)) (2 ^ w)) → (a b : ℕ) → a < 2 ^ w → b < 2 ^ w
+    → T (sameNumber (pointOf w a) (pointOf w b)) → a ≡ b
 unfolding unlessSame
 apart w h a b k l s =
-    go (sameNumber (pointOf w a) (pointOf w b)) s (all-at (unlessSame w a) (2 ^ w) b (all-at (λ a. allBelow (unlessSame w a) (2 ^ w)) (2 ^ w) a h k) l)
+    go (sameNumber (pointOf w a) (pointOf w b)) s (all-at (unlessSame w a) (2 ^ w) b
+    (all-at (λ a. allBelow (unlessSame w a) (2 ^ w)) (2 ^ w) a h k) l)
   where
     go : (t : Bool) → T t → T (not t || eqb a b) → a ≡ b
     go true s u = eqb→eq a b u
     go false s u = absurd s
 
 -- points that are equal as numbers have one label
-pub points-apart : (w a b : ℕ) → 1 ≤ w → w ≤ 2 → a < 2 ^ w → b < 2 ^ w → T (sameNumber (pointOf w a) (pointOf w b)) → a ≡ b
+pub points-apart : (w a b : ℕ) → 1 ≤ w → w ≤ 2 → a < 2 ^ w → b < 2 ^ w → T (sameNumber (pointOf w a) (pointOf w b)) → a
+    ≡ b
 unfolding allBelow unlessSame pointOf alphabet eq neg ofBits
 points-apart zero a b low high = absurd (omega arith)
 points-apart (suc zero) a b low high = apart 1 tt a b

@@ -1,5 +1,5 @@
 -- Tables that a call may read: what conditions 3 to 7 leave. Definitions only.
-use Prim.Native.Nat.{ℕ, _-_, _<_}
+use Prim.Native.Nat.{ℕ, _<_}
 use mathlib.Core.Path.{_≡_}
 use mathlib.Core.Bool.{false}
 use mathlib.Core.List.{List}

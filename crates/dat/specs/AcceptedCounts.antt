@@ -1,4 +1,4 @@
--- Accepted marker tables have exactly the counts that a layout fixes (01, "Layouts" and "Marks and cells"). Definitions only.
+-- Accepted marker tables have the counts that a layout fixes (01, "Layouts", "Marks and cells"). Definitions only.
 use Prim.Native.Nat.{ℕ, _*_, _<_}
 use mathlib.Core.Path.{_≡_}
 use mathlib.Core.List.{List}

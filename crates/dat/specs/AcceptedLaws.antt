@@ -15,7 +15,8 @@ use Rattle.refusal.specs.AnyLaws.{any-below, any-false}
 use Rattle.refusal.specs.Clear.{clear-first, clear-both}
 use Rattle.level.specs.declared.Layout.{Layout}
 use Rattle.level.specs.Sized.{Sized}
-use Rattle.dat.specs.Tables.{value, flag, marked, wrongLength, wrongValue, badFlag, wrongFlag, wrongCount, wrongSize, markerFault, phasorFault, tableFault}
+use Rattle.dat.specs.Tables.{value, flag, marked, wrongLength, wrongValue, badFlag, wrongFlag, wrongCount}
+use Rattle.dat.specs.Tables.{wrongSize, markerFault, phasorFault, tableFault}
 use Rattle.dat.specs.Counts.{good-value}
 use Rattle.dat.specs.Accepted.{Markers, Phasors, InTable}
 
@@ -35,34 +36,41 @@ phasors-of l phasors z h =
     let b = clear-first _ (wrongSize l phasors) _ (a .1) in
     record { sized = z; count-ok = a .0; sizes-ok = b .0 }
 
-pub tables-of : (l : Layout) (table : List ℕ) (phasors : List Float) → Sized l → tableFault l table phasors ≡ Clear → Markers l table × Phasors l phasors
+pub tables-of : (l : Layout) (table : List ℕ) (phasors : List Float) → Sized l → tableFault l table phasors ≡ Clear
+    → Markers l table × Phasors l phasors
 unfolding tableFault
 tables-of l table phasors z h =
     let s = clear-both (markerFault l table) (phasorFault l phasors) h in
     (markers-of l table z (s .0), phasors-of l phasors z (s .1))
 
 -- ---- lengths, and the places that a carrier's entries have
-pub length-is : (l : Layout) (table : List ℕ) → wrongLength l table ≡ false → length table ≡ l .nc * (l .markers + l .nsym)
+pub length-is : (l : Layout) (table : List ℕ) → wrongLength l table ≡ false → length table
+    ≡ l .nc * (l .markers + l .nsym)
 unfolding wrongLength
 length-is l table h = eqb-true _ _ (not-false _ h)
 
-pub count-is : (l : Layout) (phasors : List Float) → wrongCount l phasors ≡ false → length phasors ≡ 2 * (l .nc * l .nsym)
+pub count-is : (l : Layout) (phasors : List Float) → wrongCount l phasors ≡ false → length phasors
+    ≡ 2 * (l .nc * l .nsym)
 unfolding wrongCount
 count-is l phasors h = eqb-true _ _ (not-false _ h)
 
-pub length-right : (l : Layout) (table : List ℕ) → length table ≡ l .nc * (l .markers + l .nsym) → wrongLength l table ≡ false
+pub length-right : (l : Layout) (table : List ℕ) → length table ≡ l .nc * (l .markers + l .nsym) → wrongLength l table
+    ≡ false
 unfolding wrongLength
 length-right l table e = rw (eq-eqb _ _ e) refl
 
-pub length-wrong : (l : Layout) (table : List ℕ) → (length table ≡ l .nc * (l .markers + l .nsym) → ⊥) → wrongLength l table ≡ true
+pub length-wrong : (l : Layout) (table : List ℕ) → (length table ≡ l .nc * (l .markers + l .nsym) → ⊥)
+    → wrongLength l table ≡ true
 unfolding wrongLength
 length-wrong l table e = rw (ne-eqb _ _ e) refl
 
-pub count-right : (l : Layout) (phasors : List Float) → length phasors ≡ 2 * (l .nc * l .nsym) → wrongCount l phasors ≡ false
+pub count-right : (l : Layout) (phasors : List Float) → length phasors ≡ 2 * (l .nc * l .nsym) → wrongCount l phasors
+    ≡ false
 unfolding wrongCount
 count-right l phasors e = rw (eq-eqb _ _ e) refl
 
-pub count-wrong : (l : Layout) (phasors : List Float) → (length phasors ≡ 2 * (l .nc * l .nsym) → ⊥) → wrongCount l phasors ≡ true
+pub count-wrong : (l : Layout) (phasors : List Float) → (length phasors ≡ 2 * (l .nc * l .nsym) → ⊥)
+    → wrongCount l phasors ≡ true
 unfolding wrongCount
 count-wrong l phasors e = rw (ne-eqb _ _ e) refl
 
@@ -88,7 +96,11 @@ module _ (l : Layout) (table : List ℕ) (c : ℕ) (t : InTable l table c) where
   values-small = rows-small l c (l .markers) (t .sized) (omega arith) (omega (arith, t .sized .markers-most))
 
   pub flags-small : (l .nc * l .markers ≤ 5850) × (c * l .nsym ≤ 5850)
-  flags-small = (rows-small l (l .nc) (l .markers) (t .sized) (omega arith) (omega (arith, t .sized .markers-most)), rows-small l c (l .nsym) (t .sized) (omega arith) (t .sized .nsym-most))
+  flags-small = (
+    rows-small l (l .nc) (l .markers) (t .sized) (omega arith)
+        (omega (arith, t .sized .markers-most)),
+    rows-small l c (l .nsym) (t .sized) (omega arith) (t .sized .nsym-most),
+  )
 
   pub value-in : (k : ℕ) → k < l .markers → c * l .markers + k < length table
   value-in k K =
@@ -111,22 +123,27 @@ module _ (l : Layout) (table : List ℕ) (c : ℕ) (t : InTable l table c) where
       omega arith
 
 -- ---- a flag says whether its symbol is marked
-pub flag-is : (l : Layout) (table : List ℕ) (c j : ℕ) → wrongFlag l table ≡ false → c < l .nc → j < l .nsym → flag l table c j ≡ cond (marked l table c (j + 2)) 1 0
+pub flag-is : (l : Layout) (table : List ℕ) (c j : ℕ) → wrongFlag l table ≡ false → c < l .nc → j < l .nsym
+    → flag l table c j ≡ cond (marked l table c (j + 2)) 1 0
 unfolding wrongFlag badFlag
 flag-is l table c j h C J =
-    eqb-true _ _ (not-false _ (any-below (badFlag l table c) (l .nsym) j (any-below (λ c. any (badFlag l table c) (l .nsym)) (l .nc) c h C) J))
+    eqb-true _ _ (not-false _ (any-below (badFlag l table c) (l .nsym) j
+    (any-below (λ c. any (badFlag l table c) (l .nsym)) (l .nc) c h C) J))
 
 -- the symbols below 5 are never marked
-pub low-symbol : (l : Layout) (table : List ℕ) (c s : ℕ) → wrongValue l table ≡ false → c < l .nc → s < 5 → marked l table c s ≡ false
+pub low-symbol : (l : Layout) (table : List ℕ) (c s : ℕ) → wrongValue l table ≡ false → c < l .nc → s < 5
+    → marked l table c s ≡ false
 unfolding marked
 low-symbol l table c s h C S =
-    any-false (λ k. eqb (value l table c k) s) (l .markers) (λ k K. ne-eqb _ s (apart (value l table c k) (good-value l table c k h C K .from)))
+    any-false (λ k. eqb (value l table c k) s) (l .markers)
+    (λ k K. ne-eqb _ s (apart (value l table c k) (good-value l table c k h C K .from)))
   where
     apart : (v : ℕ) → 5 ≤ v → v ≡ s → ⊥
     apart v h e = omega arith
 
 -- ---- the places of the phasors
-pub phasor-in : (l : Layout) (phasors : List Float) (c s : ℕ) → Phasors l phasors → c < l .nc → s < l .nsym → 2 * (c * l .nsym + s) + 1 < length phasors
+pub phasor-in : (l : Layout) (phasors : List Float) (c s : ℕ) → Phasors l phasors → c < l .nc → s < l .nsym
+    → 2 * (c * l .nsym + s) + 1 < length phasors
 phasor-in l phasors c s p C S =
     let a = row-in (l .nc) (l .nsym) c s C S in
     let e = count-is l phasors (p .count-ok) in

@@ -27,7 +27,8 @@ one false = 0
 
 pub count-step : (f : ℕ → Bool) (n : ℕ) → length (symbolsWhere f (suc n)) ≡ length (symbolsWhere f n) + one (f (suc n))
 unfolding symbolsWhere
-count-step f n = length-append (symbolsWhere f n) (cond (f (suc n)) (suc n ∷ []) []) ∙ ap (λ (k : ℕ). length (symbolsWhere f n) + k) (single (f (suc n)))
+count-step f n = length-append (symbolsWhere f n) (cond (f (suc n)) (suc n ∷ []) []) ∙ ap
+    (λ (k : ℕ). length (symbolsWhere f n) + k) (single (f (suc n)))
   where
     single : (b : Bool) → length (cond b (suc n ∷ []) []) ≡ one b
     single true = refl
@@ -43,7 +44,8 @@ count-le f k zero h = rw (zero-of k h) (omega arith)
     zero-of : (k : ℕ) → k ≤ 0 → k ≡ 0
     zero-of k h = omega arith
 count-le f k (suc n) h =
-    ⊎-elim (λ e. rw e (omega arith)) (λ l. let i = count-le f k n (le-of-suc-le-suc l) in let s = count-step f n in omega arith) (eq-or-lt-of-le h)
+    ⊎-elim (λ e. rw e (omega arith)) (λ l. let i = count-le f k n
+    (le-of-suc-le-suc l) in let s = count-step f n in omega arith) (eq-or-lt-of-le h)
 
 -- those of which f holds, and the others
 pub count-both : (f : ℕ → Bool) (n : ℕ) → length (symbolsWhere f n) + length (symbolsWhere (λ s. not (f s)) n) ≡ n
@@ -65,7 +67,8 @@ unfolding symbolsWhere
 count-none zero = refl
 count-none (suc n) = let i = count-none n in let s = count-step (λ s. false) n in omega arith
 
-count-same : (f g : ℕ → Bool) (n : ℕ) → ((s : ℕ) → s ≤ n → g s ≡ f s) → length (symbolsWhere g n) ≡ length (symbolsWhere f n)
+count-same : (f g : ℕ → Bool) (n : ℕ) → ((s : ℕ) → s ≤ n → g s ≡ f s) → length (symbolsWhere g n)
+    ≡ length (symbolsWhere f n)
 unfolding symbolsWhere
 count-same f g zero h = refl
 count-same f g (suc n) h =
@@ -93,7 +96,8 @@ count-one f g (suc n) x h l p q r =
     omega arith)
     (λ k.
     let i = count-one f g n x h (le-of-suc-le-suc k) p q r in
-    let u : one (g (suc n)) ≡ one (f (suc n)) = ap one (r (suc n) (λ t. apart x (suc n) n (le-of-suc-le-suc k) (sym t) refl)) in
+    let u : one (g (suc n)) ≡ one (f (suc n)) =
+    ap one (r (suc n) (λ t. apart x (suc n) n (le-of-suc-le-suc k) (sym t) refl)) in
     omega arith)
     (eq-or-lt-of-le l)
   where
@@ -101,14 +105,16 @@ count-one f g (suc n) x h l p q r =
     apart s x n k t e = omega arith
 
 -- m values, all different and from 1 to n, are m symbols
-pub count-values : (v : ℕ → ℕ) (m n : ℕ) → ((k : ℕ) → k < m → (1 ≤ v k) × (v k ≤ n)) → ((k : ℕ) → k < m → any (λ j. eqb (v j) (v k)) k ≡ false)
+pub count-values : (v : ℕ → ℕ) (m n : ℕ) → ((k : ℕ) → k < m → (1 ≤ v k) × (v k ≤ n))
+    → ((k : ℕ) → k < m → any (λ j. eqb (v j) (v k)) k ≡ false)
     → length (symbolsWhere (λ s. any (λ k. eqb (v k) s) m) n) ≡ m
 unfolding any
 count-values v zero n inside once = count-none n
 count-values v (suc m) n inside once =
     let i = count-values v m n (λ k l. inside k (omega arith)) (λ k l. once k (omega arith)) in
     let r = inside m (omega arith) in
-    count-one (λ s. any (λ k. eqb (v k) s) m) (λ s. any (λ k. eqb (v k) s) (suc m)) n (v m) (r .0) (r .1) (once m (omega arith))
+    count-one (λ s. any (λ k. eqb (v k) s) m) (λ s. any (λ k. eqb (v k) s) (suc m)) n (v m) (r .0) (r .1)
+    (once m (omega arith))
     (met (any (λ k. eqb (v k) (v m)) m) (v m)) (λ s d. other (any (λ k. eqb (v k) s) m) (v m) s d)
     ∙ ap suc i
   where
@@ -127,11 +133,14 @@ pub record GoodValue (l : Layout) (table : List ℕ) (c k : ℕ) : Type 0 where
   pub to : value l table c k ≤ l .spf - 4
   pub once : any (λ j. eqb (value l table c j) (value l table c k)) k ≡ false
 
-pub good-value : (l : Layout) (table : List ℕ) (c k : ℕ) → wrongValue l table ≡ false → c < l .nc → k < l .markers → GoodValue l table c k
+pub good-value : (l : Layout) (table : List ℕ) (c k : ℕ) → wrongValue l table ≡ false → c < l .nc → k < l .markers
+    → GoodValue l table c k
 unfolding wrongValue badValue
 good-value l table c k h C K =
-    let b = any-below (badValue l table c) (l .markers) k (any-below (λ c. any (badValue l table c) (l .markers)) (l .nc) c h C) K in
-    let s = neither (ltb (value l table c k) 5 || ltb (l .spf - 4) (value l table c k)) (any (λ j. eqb (value l table c j) (value l table c k)) k) b in
+    let b = any-below (badValue l table c) (l .markers) k
+    (any-below (λ c. any (badValue l table c) (l .markers)) (l .nc) c h C) K in
+    let s = neither (ltb (value l table c k) 5 || ltb (l .spf - 4) (value l table c k))
+    (any (λ j. eqb (value l table c j) (value l table c k)) k) b in
     let t = neither (ltb (value l table c k) 5) (ltb (l .spf - 4) (value l table c k)) (s .0) in
     record { from = ltb-false _ _ (t .0); to = ltb-false _ _ (t .1); once = s .1 }
 
@@ -141,7 +150,11 @@ module _ (l : Layout) (table : List ℕ) (z : Sized l) (h : wrongValue l table �
   unfolding marksOf marked
   marks-count =
       count-values (value l table c) (l .markers) (l .nsym - 1)
-      (λ k K. let g = good-value l table c k h C K in (first (value l table c k) (g .from), last (value l table c k) (l .spf) (l .nsym) (g .to) (z .spf-is)))
+      (λ k K. let g = good-value l table c k h C K in (
+        first (value l table c k) (g .from),
+        last (value l table c k)
+            (l .spf) (l .nsym) (g .to) (z .spf-is),
+      ))
       (λ k K. good-value l table c k h C K .once)
     where
       first : (v : ℕ) → 5 ≤ v → 1 ≤ v
@@ -156,13 +169,15 @@ module _ (l : Layout) (table : List ℕ) (z : Sized l) (h : wrongValue l table �
   cells-count =
       let m = marks-count in
       let b = count-both (marked l table c) (l .nsym - 1) in
-      rest (length (marksOf l table c)) (length (cellsOf l table c)) (l .nsym) (l .markers) (cells l) m b (z .cells-are)
+      rest (length (marksOf l table c)) (length (cellsOf l table c)) (l .nsym) (l .markers) (cells l) m b
+      (z .cells-are)
     where
       rest : (a b n m k : ℕ) → a ≡ m → a + b ≡ n - 1 → k + m + 1 ≡ n → b ≡ k
       rest a b n m k e h g = omega arith
 
 -- ---- all carriers
-pub byCarrier-count : (f : ℕ → List ℕ) (n m : ℕ) → ((c : ℕ) → c < n → length (f c) ≡ m) → length (byCarrier f n) ≡ n * m
+pub byCarrier-count : (f : ℕ → List ℕ) (n m : ℕ) → ((c : ℕ) → c < n → length (f c) ≡ m) → length (byCarrier f n)
+    ≡ n * m
 unfolding byCarrier
 byCarrier-count f zero m h = omega arith
 byCarrier-count f (suc n) m h =
@@ -174,10 +189,14 @@ byCarrier-count f (suc n) m h =
     omega arith
 
 -- the marks of an accepted table
-pub all-marks-count : (l : Layout) (table : List ℕ) → Sized l → wrongValue l table ≡ false → length (byCarrier (marksOf l table) (l .nc)) ≡ l .nc * l .markers
-all-marks-count l table z h = byCarrier-count (marksOf l table) (l .nc) (l .markers) (λ c C. marks-count l table z h c C)
+pub all-marks-count : (l : Layout) (table : List ℕ) → Sized l → wrongValue l table ≡ false
+    → length (byCarrier (marksOf l table) (l .nc)) ≡ l .nc * l .markers
+all-marks-count l table z h =
+    byCarrier-count (marksOf l table) (l .nc) (l .markers) (λ c C. marks-count l table z h c C)
 
 -- the bits of its cells are the payload: n of them
-pub all-cells-count : (l : Layout) (table : List ℕ) → Sized l → wrongValue l table ≡ false → length (byCarrier (cellsOf l table) (l .nc)) * l .bps ≡ l .n
+pub all-cells-count : (l : Layout) (table : List ℕ) → Sized l → wrongValue l table ≡ false
+    → length (byCarrier (cellsOf l table) (l .nc)) * l .bps ≡ l .n
 all-cells-count l table z h =
-    ap (λ (k : ℕ). k * l .bps) (byCarrier-count (cellsOf l table) (l .nc) (cells l) (λ c C. cells-count l table z h c C)) ∙ sym (z .n-is)
+    ap (λ (k : ℕ). k * l .bps) (byCarrier-count (cellsOf l table) (l .nc) (cells l)
+    (λ c C. cells-count l table z h c C)) ∙ sym (z .n-is)

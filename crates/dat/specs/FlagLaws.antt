@@ -38,14 +38,17 @@ ones-none n =
 pub ones-set : (f : ℕ → Bool) (n v : ℕ) → v < n → set (ones f n) v 1 ≡ ones (λ s. f s || eqb v s) n
 ones-set f n v h =
     let len : length (ones f n) ≡ n = ones-length f n in
-    ext-getD 0 (set (ones f n) v 1) (ones (λ s. f s || eqb v s) n) (length-set (ones f n) v 1 ∙ len ∙ sym (ones-length (λ s. f s || eqb v s) n))
-    (λ i g. let I : i < n = rw (length-set (ones f n) v 1, len) at g in entry i I (eqb v i) refl ∙ sym (ones-at (λ s. f s || eqb v s) n i I))
+    ext-getD 0 (set (ones f n) v 1) (ones (λ s. f s || eqb v s) n)
+    (length-set (ones f n) v 1 ∙ len ∙ sym (ones-length (λ s. f s || eqb v s) n))
+    (λ i g. let I : i < n = rw (length-set (ones f n) v 1, len) at g in entry i I (eqb v i) refl ∙ sym
+    (ones-at (λ s. f s || eqb v s) n i I))
   where
     entry : (i : ℕ) → i < n → (b : Bool) → eqb v i ≡ b → getD (set (ones f n) v 1) i 0 ≡ cond (f i || eqb v i) 1 0
     entry i I true e =
         let same : v ≡ i = eqb-true v i e in
         rw (e, or-true (f i), ← same) (getD-set-same (ones f n) v 1 0 (rw (ones-length f n) h))
-    entry i I false e = rw (e, or-false (f i)) (getD-set-other (ones f n) v i 1 0 (λ g. eqb-false v i e (sym g)) ∙ ones-at f n i I)
+    entry i I false e =
+        rw (e, or-false (f i)) (getD-set-other (ones f n) v i 1 0 (λ g. eqb-false v i e (sym g)) ∙ ones-at f n i I)
 
 -- ---- the loop over the values
 -- what the values before k set
@@ -60,17 +63,22 @@ pub before-length : (l : Layout) (table : List ℕ) (c k : ℕ) → length (setB
 unfolding setBefore
 before-length l table c k = ones-length (λ s. any (λ i. eqb (value l table c i) s) k) 452
 
-pub before-more : (l : Layout) (table : List ℕ) (c k : ℕ) (xs : List ℕ) → xs ≡ setBefore l table c k → value l table c k < 452 → set xs (value l table c k) 1 ≡ setBefore l table c (k + 1)
+pub before-more : (l : Layout) (table : List ℕ) (c k : ℕ) (xs : List ℕ) → xs ≡ setBefore l table c k
+    → value l table c k < 452 → set xs (value l table c k) 1 ≡ setBefore l table c (k + 1)
 unfolding setBefore any
-before-more l table c k xs e h = rw (add-one k) (ap (λ (ys : List ℕ). set ys (value l table c k) 1) e ∙ ones-set (λ s. any (λ i. eqb (value l table c i) s) k) 452 (value l table c k) h)
+before-more l table c k xs e h = rw (add-one k) (ap (λ (ys : List ℕ). set ys (value l table c k) 1) e ∙ ones-set
+    (λ s. any (λ i. eqb (value l table c i) s) k) 452 (value l table c k) h)
 
-pub before-all : (l : Layout) (table : List ℕ) (c k : ℕ) (xs : List ℕ) → xs ≡ setBefore l table c k → k ≡ l .markers → xs ≡ flagsSet l table c
+pub before-all : (l : Layout) (table : List ℕ) (c k : ℕ) (xs : List ℕ) → xs ≡ setBefore l table c k → k ≡ l .markers
+    → xs ≡ flagsSet l table c
 unfolding setBefore flagsSet marked
 before-all l table c k xs e g = rw g at e
 
 -- no value is above 450
-pub value-room : (l : Layout) (table : List ℕ) (c k : ℕ) → Sized l → wrongValue l table ≡ false → c < l .nc → k < l .markers → value l table c k < 452
-value-room l table c k z h C K = room (value l table c k) (l .spf) (l .nsym) (good-value l table c k h C K .to) (z .spf-is) (z .nsym-most)
+pub value-room : (l : Layout) (table : List ℕ) (c k : ℕ) → Sized l → wrongValue l table ≡ false → c < l .nc
+    → k < l .markers → value l table c k < 452
+value-room l table c k z h C K =
+    room (value l table c k) (l .spf) (l .nsym) (good-value l table c k h C K .to) (z .spf-is) (z .nsym-most)
   where
     room : (v spf nsym : ℕ) → v ≤ spf - 4 → spf ≡ nsym + 1 → nsym ≤ 450 → v < 452
     room v spf nsym h e n = omega arith
@@ -79,7 +87,8 @@ value-room l table c k z h C K = room (value l table c k) (l .spf) (l .nsym) (go
 module _ (l : Layout) (table xs : List ℕ) (c j : ℕ) (e : xs ≡ flagsSet l table c) (J : j < l .nsym) (z : Sized l) where
   set-at-flag : getD xs (j + 2) 0 ≡ cond (marked l table c (j + 2)) 1 0
   unfolding flagsSet
-  set-at-flag = ap (λ (ys : List ℕ). getD ys (j + 2) 0) e ∙ ones-at (marked l table c) 452 (j + 2) (omega (arith, z .nsym-most))
+  set-at-flag =
+      ap (λ (ys : List ℕ). getD ys (j + 2) 0) e ∙ ones-at (marked l table c) 452 (j + 2) (omega (arith, z .nsym-most))
 
   pub flag-tested : not (eqb (flag l table c j) (getD xs (j + 2) 0)) ≡ badFlag l table c j
   unfolding badFlag

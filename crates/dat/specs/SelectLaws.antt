@@ -4,7 +4,8 @@ use mathlib.Core.Path.{_≡_, refl, sym, ap, ap₂, _∙_}
 use mathlib.Core.Logic.{⊎-elim}
 use mathlib.Core.Bool.{Bool, true, false, cond}
 use mathlib.Core.List.{List, [], _∷_, _++_, append-assoc, append-nil}
-use native.Mathlib.Nat.{le-of-eq, lt-of-le-of-lt, lt-of-lt-of-le, eq-or-lt-of-le, mul-comm, mul-le-mul, mul-lt-mul-of-pos-right, mul-div-cancel, div-lt-iff-lt-mul}
+use native.Mathlib.Nat.{le-of-eq, lt-of-le-of-lt, lt-of-lt-of-le, eq-or-lt-of-le, mul-comm, mul-le-mul}
+use native.Mathlib.Nat.{mul-lt-mul-of-pos-right, mul-div-cancel, div-lt-iff-lt-mul}
 use native.Mathlib.Numerals.{add-one}
 use native.Mathlib.Omega.{arith}
 use lib.ListN.{length, getD, drop, set, length-append, length-drop, drop-of-length-le}
@@ -20,7 +21,8 @@ pub gathered-none : (f : ℕ → Bool) (l : List ℕ) → Gathered f l 0 0 l
 unfolding symbolsWhere
 gathered-none f l = record { stored = refl; count = refl }
 
-pub gathered-length : (f : ℕ → Bool) (l : List ℕ) (k n : ℕ) (m : List ℕ) → Gathered f l k n m → n ≤ length l → length m ≡ length l
+pub gathered-length : (f : ℕ → Bool) (l : List ℕ) (k n : ℕ) (m : List ℕ) → Gathered f l k n m → n ≤ length l → length m
+    ≡ length l
 gathered-length f l k n m g h =
     let a = ap length (g .stored) in
     let b = length-append (symbolsWhere f k) (drop n l) in
@@ -29,7 +31,8 @@ gathered-length f l k n m g h =
     omega arith
 
 -- there is room for symbol k + 1 where it is taken
-pub room : (f : ℕ → Bool) (l : List ℕ) (k last n : ℕ) → n ≡ length (symbolsWhere f k) → length l ≡ length (symbolsWhere f last) → k < last
+pub room : (f : ℕ → Bool) (l : List ℕ) (k last n : ℕ) → n ≡ length (symbolsWhere f k) → length l
+    ≡ length (symbolsWhere f last) → k < last
     → (n ≤ length l) × (f (k + 1) ≡ true → n < length l)
 room f l k last n e h K =
     let a = count-le f k last (omega arith) in
@@ -47,9 +50,11 @@ module _ (f : ℕ → Bool) (l : List ℕ) (k n : ℕ) (m m′ : List ℕ) (r : 
   taken t h s e =
       let w : symbolsWhere f (k + 1) ≡ symbolsWhere f k ++ ((k + 1) ∷ []) = rw t at (where-next f k) in
       record {
-        stored = s ∙ ap (λ (x : List ℕ). set x n (k + 1)) (g .stored ∙ ap (λ (x : List ℕ). symbolsWhere f k ++ x) (drop-cons l n 0 h))
+        stored = s ∙ ap (λ (x : List ℕ). set x n (k + 1))
+            (g .stored ∙ ap (λ (x : List ℕ). symbolsWhere f k ++ x) (drop-cons l n 0 h))
             ∙ set-at (symbolsWhere f k) (getD l n 0) (drop (suc n) l) (k + 1) n (sym (g .count))
-            ∙ sym (ap₂ (λ (x : List ℕ) (y : ℕ). x ++ drop y l) w (e ∙ add-one n) ∙ append-assoc (symbolsWhere f k) ((k + 1) ∷ []) (drop (suc n) l));
+            ∙ sym (ap₂ (λ (x : List ℕ) (y : ℕ). x ++ drop y l) w (e ∙ add-one n) ∙ append-assoc (symbolsWhere f k)
+            ((k + 1) ∷ []) (drop (suc n) l));
         count = let c = g .count in let u = count-next f k in let v : one (f (k + 1)) ≡ 1 = ap one t in omega arith;
       }
 
@@ -62,19 +67,23 @@ module _ (f : ℕ → Bool) (l : List ℕ) (k n : ℕ) (m m′ : List ℕ) (r : 
       }
 
   -- a turn of the loop
-  pub gathered-more : (take : Bool) → take ≡ f (k + 1) → (take ≡ true → n < length l) → Pushed m n (k + 1) take m′ r → Gathered f l (k + 1) r m′
+  pub gathered-more : (take : Bool) → take ≡ f (k + 1) → (take ≡ true → n < length l) → Pushed m n (k + 1) take m′ r
+      → Gathered f l (k + 1) r m′
   gathered-more true e h p = taken (sym e) (h refl) (p .stored) (p .count)
   gathered-more false e h p = left (sym e) (p .stored) (p .count)
 
 -- all of them
-pub gathered-all : (f : ℕ → Bool) (l : List ℕ) (last n : ℕ) (m : List ℕ) → Gathered f l last n m → length l ≡ length (symbolsWhere f last) → m ≡ symbolsWhere f last
+pub gathered-all : (f : ℕ → Bool) (l : List ℕ) (last n : ℕ) (m : List ℕ) → Gathered f l last n m → length l
+    ≡ length (symbolsWhere f last) → m ≡ symbolsWhere f last
 gathered-all f l last n m g h =
     let e = g .count in
     let q : length l ≤ n = omega arith in
-    g .stored ∙ ap (λ (r : List ℕ). symbolsWhere f last ++ r) (drop-of-length-le l q) ∙ append-nil (symbolsWhere f last)
+    g .stored ∙ ap (λ (r : List ℕ). symbolsWhere f last ++ r) (drop-of-length-le l q) ∙ append-nil
+    (symbolsWhere f last)
 
 -- `thin` where there is no more room than symbols
-pub thin-is : (v : List ℕ) (most : ℕ) → 0 < most → most ≤ length v → tabulate (λ i. getD v (i * length v / most) 0) most ≡ thin v most
+pub thin-is : (v : List ℕ) (most : ℕ) → 0 < most → most ≤ length v
+    → tabulate (λ i. getD v (i * length v / most) 0) most ≡ thin v most
 unfolding thin
 thin-is v most P h =
     ⊎-elim
@@ -92,7 +101,8 @@ thin-is v most P h =
 -- the places that `thin` reads
 pub thin-in : (i len most : ℕ) → i < most → most ≤ len → i * len / most < len
 thin-in i len most I h =
-    div-lt-iff-lt-mul (lt-of-le-of-lt zero-le I) .1 (lt-of-lt-of-le (mul-lt-mul-of-pos-right I (lt-of-lt-of-le (lt-of-le-of-lt zero-le I) h)) (le-of-eq (mul-comm most len)))
+    div-lt-iff-lt-mul (lt-of-le-of-lt zero-le I) .1 (lt-of-lt-of-le
+    (mul-lt-mul-of-pos-right I (lt-of-lt-of-le (lt-of-le-of-lt zero-le I) h)) (le-of-eq (mul-comm most len)))
 
 pub thin-small : (i len most : ℕ) → i < most → most ≤ len → len ≤ 450 → i * len ≤ 450 * 450
 thin-small i len most I h l = mul-le-mul {n₂ = 450} (omega arith) l

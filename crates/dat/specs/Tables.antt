@@ -1,4 +1,4 @@
--- The marker table and the phasors (01, "Marks and cells"; dat.rs), and conditions 3 to 7, each a Bool of what is lent. Definitions only.
+-- The marker table, the phasors (01, "Marks and cells"; dat.rs) and conditions 3 to 7. Definitions only.
 use Prim.Native.Nat.{ℕ, _+_, _-_, _*_}
 use mathlib.Core.Path.{_≡_}
 use mathlib.Core.Bool.{Bool, _||_, not, cond}
@@ -39,7 +39,8 @@ wrongLength l table = not (eqb (length table) (l .nc * (l .markers + l .nsym)))
 unfoldable pub badValue : Layout → List ℕ → ℕ → ℕ → Bool
 unfolding any
 badValue l table c k =
-    ltb (value l table c k) 5 || ltb (l .spf - 4) (value l table c k) || any (λ j. eqb (value l table c j) (value l table c k)) k
+    ltb (value l table c k) 5 || ltb (l .spf - 4) (value l table c k) || any
+    (λ j. eqb (value l table c j) (value l table c k)) k
 
 -- 4: "value outside 5 to spf − 4, or twice on a carrier"
 unfoldable pub wrongValue : Layout → List ℕ → Bool
@@ -81,7 +82,8 @@ wrongSize l phasors = any (λ i. badPhasor (cget phasors i)) (l .nc * l .nsym)
 unfoldable pub markerFault : Layout → List ℕ → Fault
 unfolding wrongLength wrongValue wrongFlag
 markerFault l table =
-    firstFault ((MarkerLength, wrongLength l table) ∷ (MarkerValue, wrongValue l table) ∷ (MarkerFlag, wrongFlag l table) ∷ [])
+    firstFault ((MarkerLength, wrongLength l table) ∷ (MarkerValue, wrongValue l table) ∷
+    (MarkerFlag, wrongFlag l table) ∷ [])
 
 -- rows 6 and 7
 unfoldable pub phasorFault : Layout → List Float → Fault

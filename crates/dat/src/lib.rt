@@ -1,4 +1,5 @@
-// The tables that a host lends: marker values and flags, and phasors (01, "Marks and cells"). Conditions 3 to 7, marks, cells and references.
+// The tables that a host lends: marker values and flags, and phasors (01, "Marks and cells"). Conditions 3 to 7,
+// marks, cells and references.
 ghost use mathlib.Core.Path.{_≡_};
 ghost use mathlib.Core.Bool.{true, false};
 ghost use Prim.Native.Nat.{_+_, _-_, _*_, _<_, _≤_};
@@ -7,9 +8,10 @@ ghost use lib.ListN.{length, getD, replicate};
 ghost use Rattle.refusal.specs.Any.{any};
 ghost use Rattle.level.specs.Lengths.{cells};
 ghost use Rattle.level.specs.Sized.{Sized};
-ghost use Rattle.dat.specs.Tables.{badValue, wrongLength, wrongValue, badFlag, wrongFlag, badPhasor, wrongCount, wrongSize, markerFault, phasorFault, tableFault, marked};
+ghost use Rattle.dat.specs.Tables.{badValue, wrongLength, wrongValue, badFlag, wrongFlag, badPhasor, wrongCount};
+ghost use Rattle.dat.specs.Tables.{wrongSize, markerFault, phasorFault, tableFault, marked};
 ghost use Rattle.dat.specs.Flags.{flagsSet};
-ghost use Rattle.dat.specs.Cells.{symbolsWhere, picked, marksOf, cellsOf, thin, referenceOf, cellReferenceOf};
+ghost use Rattle.dat.specs.Cells.{picked, selected, marksOf, cellsOf, thin, referenceOf, cellReferenceOf};
 ghost use Rattle.dat.specs.Select.{Pushed};
 ghost use Rattle.dat.specs.Accepted.{InTable, Markers, Phasors};
 use complex::Complex;
@@ -242,8 +244,8 @@ fn push(out: &mut [usize], n: usize, s: usize, take: bool) -> usize
 
 // The symbols of carrier c that are marked, or those that aren't, rising.
 fn select(l: Layout, table: &[u16], c: usize, want: bool, out: &mut [usize])
-    requires { ⌜ Markers l (now table) × (c < l .nc) × (length (now out) ≡ length (symbolsWhere (λ s. picked want (marked l (now table) c s)) (l .nsym - 1))) ⌝ }
-    ensures { λ _. ⌜ now (out .exit) ≡ symbolsWhere (λ s. picked want (marked l (now (table .entry)) c s)) (l .nsym - 1) ⌝ }
+    requires { ⌜ Markers l (now table) × (c < l .nc) × (length (now out) ≡ length (selected want l (now table) c)) ⌝ }
+    ensures { λ _. ⌜ now (out .exit) ≡ selected want l (now (table .entry)) c ⌝ }
 {
     let last = l.nsym - 1;
     let mut n = 0;
@@ -287,7 +289,8 @@ fn spread(symbols: &[usize], out: &mut [usize])
 
 // The kept cells of carrier c, by way of room for all its cells.
 fn kept_through(l: Layout, table: &[u16], c: usize, all: &mut [usize], out: &mut [usize])
-    requires { ⌜ Markers l (now table) × (c < l .nc) × (length (now all) ≡ cells l) × (0 < length (now out)) × (length (now out) ≤ length (now all)) ⌝ }
+    requires { ⌜ Markers l (now table) × (c < l .nc) × (length (now all) ≡ cells l)
+        × (0 < length (now out)) × (length (now out) ≤ length (now all)) ⌝ }
     ensures { λ _. ⌜ now (out .exit) ≡ thin (cellsOf l (now (table .entry)) c) (length (now (out .entry))) ⌝ }
 {
     carrier_cells(l, table, c, all);

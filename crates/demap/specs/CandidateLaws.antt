@@ -1,4 +1,4 @@
--- The candidates of a label for a bit are labels whose bit is the other one, in an alphabet of 2 ^ w points for any w. Assumes nothing.
+-- The candidates of a label for a bit have the other bit, for any size of alphabet. Assumes nothing.
 use Prim.Native.Nat.{ℕ, zero, suc, _+_, _-_, _*_, _/_, _%_, _^_, _<_, min}
 use mathlib.Core.Path.{_≡_, refl, sym, ap, _∙_}
 use mathlib.Core.Logic.{⊎-elim}
@@ -35,7 +35,8 @@ module _ (P : ℕ → Type 0) where
   all-where : (f : ℕ → Bool) (n : ℕ) → ((j : ℕ) → j < n → f j ≡ true → P j) → All P (labelsWhere f n)
   unfolding All labelsWhere
   all-where f zero h = tt
-  all-where f (suc n) h = all-append (labelsWhere f n) (cond (f n) (n ∷ []) []) (all-where f n (λ j l e. h j (omega arith) e)) (go (f n) (h n (omega arith)))
+  all-where f (suc n) h = all-append (labelsWhere f n) (cond (f n) (n ∷ []) [])
+      (all-where f n (λ j l e. h j (omega arith) e)) (go (f n) (h n (omega arith)))
     where
       go : (t : Bool) → (t ≡ true → P n) → All P (cond t (n ∷ []) [])
       go true g = (g refl, tt)
@@ -61,7 +62,8 @@ unfolding insert
 insert-length key j [] = refl
 insert-length key j (k ∷ ks) = go (lt (key k) (key j)) (insert-length key j ks)
   where
-    go : (t : Bool) → length (insert key j ks) ≡ suc (length ks) → length (cond t (k ∷ insert key j ks) (j ∷ k ∷ ks)) ≡ suc (suc (length ks))
+    go : (t : Bool) → length (insert key j ks) ≡ suc (length ks) → length (cond t (k ∷ insert key j ks) (j ∷ k ∷ ks))
+        ≡ suc (suc (length ks))
     go true e = ap suc e
     go false e = refl
 
@@ -92,8 +94,12 @@ other w b h B H =
     let q = h / 2 ^ s in
     let l : q < 2 ^ suc b = shr-lt (suc b) s (rw e H) in
     let p = 2 * (q / 2) + (1 - q % 2) in
-    let g = turned q (2 ^ b) (rw two-pow-succ at l) in
-    (p * 2 ^ s, rw e at (shl-lt {a = p} (suc b) s (rw two-pow-succ (g .0))), λ z. g .1 (sym (ap (λ (x : ℕ). x % 2) (shl-shr p s)) ∙ z))
+    let g = turned q (2 ^ b) (rw two-pow-succ at l) in (
+      p * 2 ^ s,
+      rw e at (shl-lt {a = p} (suc b) s (rw two-pow-succ (g .0))),
+      λ z. g .1
+          (sym (ap (λ (x : ℕ). x % 2) (shl-shr p s)) ∙ z),
+    )
 
 differs-by : (w b h j : ℕ) → (labelBit w b j ≡ labelBit w b h → ⊥) → differs w b h j ≡ true
 differs-by w b h j n = ap not (ne-eqb (labelBit w b j) (labelBit w b h) n)
@@ -111,15 +117,21 @@ module _ (w b h : ℕ) (points : List Complex) (L : length points ≡ 2 ^ w) (B 
   some =
       let o = other w b h B H in
       let s = some-where (differs w b h) (length points) (o .0) (rw L (o .1)) (differs-by w b h (o .0) (o .2)) in
-      omega (arith, sorted-length (λ j. distSqr (pointAt points j) (pointAt points h)) (labelsWhere (differs w b h) (length points)))
+      omega (
+        arith,
+        sorted-length (λ j. distSqr (pointAt points j) (pointAt points h))
+            (labelsWhere (differs w b h) (length points)),
+      )
 
   all : All Alternative (alternatives w points b h)
   unfolding alternatives
   all =
-      all-sorted Alternative (λ j. distSqr (pointAt points j) (pointAt points h)) (labelsWhere (differs w b h) (length points))
+      all-sorted Alternative (λ j. distSqr (pointAt points j) (pointAt points h))
+      (labelsWhere (differs w b h) (length points))
       (all-where Alternative (differs w b h) (length points) (λ j l t. (rw (← L) l, differs-says w b h j t)))
 
-  pub candidate-is : (i : ℕ) → (candidate w points b h i < 2 ^ w) × (labelBit w b (candidate w points b h i) ≡ labelBit w b h → ⊥)
+  pub candidate-is : (i : ℕ)
+      → (candidate w points b h i < 2 ^ w) × (labelBit w b (candidate w points b h i) ≡ labelBit w b h → ⊥)
   unfolding candidate
   candidate-is i =
       let js = alternatives w points b h in

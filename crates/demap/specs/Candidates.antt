@@ -1,4 +1,4 @@
--- The labels that a soft bit is weighed against (demap.rs, `Demapper::new`), for an alphabet of any size. Definitions only.
+-- The labels that a soft bit is weighed against (demap.rs, `Demapper::new`). Definitions only.
 use Prim.Native.Nat.{ℕ, zero, suc, _-_, min}
 use mathlib.Core.Bool.{Bool, not, cond}
 use mathlib.Core.List.{List, [], _∷_, _++_}
@@ -30,10 +30,12 @@ sorted key (j ∷ js) = insert key j (sorted key js)
 abbrev pub differs : ℕ → ℕ → ℕ → ℕ → Bool
 differs w b h j = not (eqb (labelBit w b j) (labelBit w b h))
 
--- the labels whose bit b is not that of h, by the squared distance of their points from that of h, equal ones in index order
+-- the labels whose bit b is not that of h, by the squared distance of their points from that of h, equal ones in index
+-- order
 unfoldable pub alternatives : ℕ → List Complex → ℕ → ℕ → List ℕ
 unfolding labelsWhere sorted labelBit distSqr
-alternatives w points b h = sorted (λ j. distSqr (pointAt points j) (pointAt points h)) (labelsWhere (differs w b h) (length points))
+alternatives w points b h =
+    sorted (λ j. distSqr (pointAt points j) (pointAt points h)) (labelsWhere (differs w b h) (length points))
 
 -- candidate i of four: the first four, the last one repeated where there are fewer
 unfoldable pub candidate : ℕ → List Complex → ℕ → ℕ → ℕ → ℕ

@@ -1,4 +1,4 @@
--- The mean norm of the steps, and the steps divided by it (01, "Reading": "mean norm g, division by g"). Definitions only.
+-- The mean norm of the steps (01, "Reading"). Definitions only.
 use Prim.Native.Nat.{ℕ}
 use lib.IntN.{pos}
 use lib.Ieee.{Float, binary64, div, ofInt}
@@ -11,7 +11,7 @@ unfoldable pub sumOfNorms : (ℕ → Complex) → ℕ → Float
 unfolding fsumTo normOf
 sumOfNorms u n = fsumTo (λ k. normOf (u k)) n
 
--- g
+-- "mean norm g"
 unfoldable pub meanNorm : (ℕ → Complex) → ℕ → Float
 unfolding sumOfNorms div ofInt
 meanNorm u n = div binary64 (sumOfNorms u n) (ofInt binary64 (pos n))

@@ -1,4 +1,4 @@
--- The nearest point (01, "Reading": "The nearest point goes by the squared distance as `nearest` rounds it, first of equals"). Definitions only.
+-- The nearest point (01, "Reading"). Definitions only.
 use Prim.Native.Nat.{ℕ, zero, suc}
 use mathlib.Core.Bool.{false, cond}
 use mathlib.Core.List.{List}
@@ -31,7 +31,7 @@ unfolding lt
 nearestOf d zero = closest 0 (inf false)
 nearestOf d (suc n) = nearer (nearestOf d n) n (d n)
 
--- the nearest point of an alphabet
+-- "The nearest point goes by the squared distance as `nearest` rounds it, first of equals."
 unfoldable pub nearest : List Complex → Complex → Closest
 unfolding nearestOf distSqr
 nearest points z = nearestOf (λ j. distSqr z (pointAt points j)) (length points)

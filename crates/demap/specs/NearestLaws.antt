@@ -1,4 +1,4 @@
--- The nearest label among finite distances: it is a label, no point is nearer, and each one before it is farther. Assumes nothing.
+-- The nearest label: no point is nearer, and each one before it is farther. Assumes nothing.
 use Prim.Native.Nat.{ℕ, zero, suc, _+_, _*_, _≤_, _<_}
 use mathlib.Core.Path.{_≡_, refl}
 use mathlib.Core.Logic.{⊎-elim}
@@ -30,20 +30,24 @@ pub dist-plain : (z c : Complex) (k : ℕ) → k ≤ 510 → Near z k → Near c
 unfolding distSqr
 dist-plain z c k K p q =
     norm-sqr-plain (cx (sub binary64 (z .re) (c .re)) (sub binary64 (z .im) (c .im))) (suc k) (omega arith)
-    (sub-within binary64 (z .re) (c .re) k (omega arith) (p .0) (q .0)) (sub-within binary64 (z .im) (c .im) k (omega arith) (p .1) (q .1))
+    (sub-within binary64 (z .re) (c .re) k (omega arith) (p .0) (q .0))
+    (sub-within binary64 (z .im) (c .im) k (omega arith) (p .1) (q .1))
 
 -- ---- the nearest
-pub nearest-step : (d : ℕ → Float) (n : ℕ) → nearestOf d (n + 1) ≡ cond (lt (d n) (nearestOf d n .distance)) (closest n (d n)) (nearestOf d n)
+pub nearest-step : (d : ℕ → Float) (n : ℕ) → nearestOf d (n + 1)
+    ≡ cond (lt (d n) (nearestOf d n .distance)) (closest n (d n)) (nearestOf d n)
 unfolding nearestOf
 nearest-step d n = rw add-one refl
 
 -- a turn of a loop that keeps the nearest: label n is nearer, or it isn't
-pub nearest-taken : (d : ℕ → Float) (n : ℕ) (r : Closest) (e : Float) → r ≡ nearestOf d n → e ≡ d n → lt e (r .distance) ≡ true → closest n e ≡ nearestOf d (n + 1)
+pub nearest-taken : (d : ℕ → Float) (n : ℕ) (r : Closest) (e : Float) → r ≡ nearestOf d n → e ≡ d n
+    → lt e (r .distance) ≡ true → closest n e ≡ nearestOf d (n + 1)
 nearest-taken d n r e h g t =
     let u : lt (d n) (nearestOf d n .distance) ≡ true = cc in
     rw (nearest-step d n, u, g) refl
 
-pub nearest-left : (d : ℕ → Float) (n : ℕ) (r : Closest) (e : Float) → r ≡ nearestOf d n → e ≡ d n → lt e (r .distance) ≡ false → r ≡ nearestOf d (n + 1)
+pub nearest-left : (d : ℕ → Float) (n : ℕ) (r : Closest) (e : Float) → r ≡ nearestOf d n → e ≡ d n → lt e (r .distance)
+    ≡ false → r ≡ nearestOf d (n + 1)
 nearest-left d n r e h g t =
     let u : lt (d n) (nearestOf d n .distance) ≡ false = cc in
     rw (nearest-step d n, u) h
@@ -78,12 +82,14 @@ plain-le-self x p = is-true (le x x) (cross-le x x p p (le-refl (num x * den x))
 module _ (d : ℕ → Float) (n : ℕ) (h : (k : ℕ) → k < suc n → T (plain (d k))) (r : Closest) (f : First d n r) where
   taken : lt (d n) (r .distance) ≡ true → First d (suc n) (closest n (d n))
   taken t =
-      let before : (k : ℕ) → k < n → lt (d n) (d k) ≡ true = λ k l. lt-le-trans (d n) (r .distance) (d k) t (f .least k l) in
+      let before : (k : ℕ) → k < n → lt (d n) (d k) ≡ true =
+      λ k l. lt-le-trans (d n) (r .distance) (d k) t (f .least k l) in
       record {
         label-below = omega arith;
         distance-at = refl;
         least = λ k l.
-            ⊎-elim (λ e. rw e (plain-le-self (d n) (h n (omega arith)))) (λ g. lt-le (d n) (d k) (before k g)) (eq-or-lt-of-le (le-of-suc-le-suc l));
+            ⊎-elim (λ e. rw e (plain-le-self (d n) (h n (omega arith)))) (λ g. lt-le (d n) (d k) (before k g))
+            (eq-or-lt-of-le (le-of-suc-le-suc l));
         first = before;
       }
 
@@ -94,7 +100,8 @@ module _ (d : ℕ → Float) (n : ℕ) (h : (k : ℕ) → k < suc n → T (plain
         label-below = omega (arith, f .label-below);
         distance-at = f .distance-at;
         least = λ k l.
-            ⊎-elim (λ e. rw e (not-lt-le (r .distance) (d n) (plain-number (r .distance) p) (plain-number (d n) (h n (omega arith))) t)) (λ g. f .least k g)
+            ⊎-elim (λ e. rw e (not-lt-le (r .distance) (d n) (plain-number (r .distance) p)
+            (plain-number (d n) (h n (omega arith))) t)) (λ g. f .least k g)
             (eq-or-lt-of-le (le-of-suc-le-suc l));
         first = f .first;
       }
@@ -131,8 +138,10 @@ nearest-below d (suc zero) l = go (lt (d 0) (inf false))
     go : (t : Bool) → cond t (closest 0 (d 0)) (closest 0 (inf false)) .label < 1
     go true = l
     go false = l
-nearest-below d (suc (suc n)) l = go (lt (d (suc n)) (nearestOf d (suc n) .distance)) (nearest-below d (suc n) (omega arith))
+nearest-below d (suc (suc n)) l =
+    go (lt (d (suc n)) (nearestOf d (suc n) .distance)) (nearest-below d (suc n) (omega arith))
   where
-    go : (t : Bool) → nearestOf d (suc n) .label < suc n → cond t (closest (suc n) (d (suc n))) (nearestOf d (suc n)) .label < suc (suc n)
+    go : (t : Bool) → nearestOf d (suc n) .label < suc n
+        → cond t (closest (suc n) (d (suc n))) (nearestOf d (suc n)) .label < suc (suc n)
     go true h = omega arith
     go false h = omega arith

@@ -1,4 +1,4 @@
--- The candidates in the alphabets of one and two bits: first the label with bit b turned, then the one with all bits turned. Assumes nothing.
+-- The candidates in the alphabets of one and two bits: bit b turned, then all bits turned. Assumes nothing.
 use Prim.Native.Nat.{ℕ, zero, suc, _+_, _-_, _%_, _<_, min}
 use mathlib.Core.Path.{_≡_, refl, sym, ap, _∙_}
 use mathlib.Core.List.{List, [], _∷_}
@@ -52,8 +52,10 @@ one-bit-candidate h i l = sym (ap (λ (js : List ℕ). entry js i) (one-bit h l)
 
 pub later-candidate : (b h i : ℕ) → b < 2 → h < 4 → 0 < i → 3 - h ≡ candidate 2 (alphabet 2) b h i
 unfolding candidate
-later-candidate zero h i B l I = sym (ap (λ (js : List ℕ). entry js i) (high-bit h l) ∙ later-of-two ((h + 2) % 4) (3 - h) i I)
-later-candidate (suc zero) h i B l I = sym (ap (λ (js : List ℕ). entry js i) (low-bit h l) ∙ later-of-two ((5 - h) % 4) (3 - h) i I)
+later-candidate zero h i B l I =
+    sym (ap (λ (js : List ℕ). entry js i) (high-bit h l) ∙ later-of-two ((h + 2) % 4) (3 - h) i I)
+later-candidate (suc zero) h i B l I =
+    sym (ap (λ (js : List ℕ). entry js i) (low-bit h l) ∙ later-of-two ((5 - h) % 4) (3 - h) i I)
 later-candidate (suc (suc b)) h i B l I = absurd (omega arith)
 
 pub first-high : (h : ℕ) → h < 4 → (h + 2) % 4 ≡ candidate 2 (alphabet 2) 0 h 0

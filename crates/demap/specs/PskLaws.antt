@@ -1,4 +1,4 @@
--- The alphabets of one and two bits: the nearest label, the sign law, and a cell read against the bits that were sent. Assumes nothing.
+-- The alphabets of one and two bits: the nearest label, the sign law, a cell read. Assumes nothing.
 use Prim.Native.Nat.{ℕ, zero, suc, _+_, _^_, _≤_, _<_}
 use mathlib.Core.Path.{_≡_, sym, ap, _∙_}
 use mathlib.Core.List.{List}
@@ -42,8 +42,11 @@ module _ (w : ℕ) (low : 1 ≤ w) (high : w ≤ 2) where
         count = alphabet-length w low high;
         room = lit≤ tt;
         near = λ j l.
-            let p = point-near w j low high l in
-            (within-mono (pointAt (alphabet w) j .re) 0 500 (lit≤ tt) (p .0), within-mono (pointAt (alphabet w) j .im) 0 500 (lit≤ tt) (p .1));
+            let p = point-near w j low high l in (
+              within-mono (pointAt (alphabet w) j .re) 0 500 (lit≤ tt) (p .0),
+              within-mono
+                  (pointAt (alphabet w) j .im) 0 500 (lit≤ tt) (p .1),
+            );
       }
 
   -- whatever z is, the nearest label is one of the alphabet
@@ -52,7 +55,8 @@ module _ (w : ℕ) (low : 1 ≤ w) (high : w ≤ 2) where
   psk-label-below z =
       rw (alphabet-length w low high) (nearest-below (λ j. distSqr z (pointAt (alphabet w) j)) (2 ^ w) (pow-pos w))
 
-  pub psk-nearest : (z : Complex) → Near z 500 → First (λ j. distSqr z (pointAt (alphabet w) j)) (2 ^ w) (nearest (alphabet w) z)
+  pub psk-nearest : (z : Complex) → Near z 500
+      → First (λ j. distSqr z (pointAt (alphabet w) j)) (2 ^ w) (nearest (alphabet w) z)
   psk-nearest z p = nearest-is w 500 (alphabet w) psk-points z p
 
   pub psk-sign : (b : ℕ) (z : Complex) (nvar : Float) → b < w → Near z 500 → Variance nvar
@@ -60,12 +64,17 @@ module _ (w : ℕ) (low : 1 ≤ w) (high : w ≤ 2) where
   unfolding SignLaw
   psk-sign b z nvar B p v = soft-sign w 500 (alphabet w) psk-points b B z p nvar v
 
-  -- ---- a cell read: its sign bits are the w bits of a payload from `at` on exactly when the nearest label is the one that those bits spell
-  module _ (z : Complex) (nvar : Float) (p : Near z 500) (v : Variance nvar) (payload : List ℕ) (at : ℕ) (bits : Bits payload at w) where
-    pub read-says : ((b : ℕ) → b < w → signBit (softBit w (alphabet w) b z nvar) ≡ getD payload (at + b) 0) → nearest (alphabet w) z .label ≡ labelAt payload at w
+  -- ---- a cell read: its sign bits are the w bits of a payload from `at` on exactly when the nearest label is the one
+  -- that those bits spell
+  module _ (z : Complex) (nvar : Float) (p : Near z 500) (v : Variance nvar) (payload : List ℕ) (at : ℕ)
+      (bits : Bits payload at w) where
+    pub read-says : ((b : ℕ) → b < w → signBit (softBit w (alphabet w) b z nvar) ≡ getD payload (at + b) 0)
+        → nearest (alphabet w) z .label ≡ labelAt payload at w
     read-says h =
-        bits-equal w (nearest (alphabet w) z .label) (labelAt payload at w) (psk-label-below z) (label-below payload at w bits)
+        bits-equal w (nearest (alphabet w) z .label) (labelAt payload at w) (psk-label-below z)
+        (label-below payload at w bits)
         (λ b l. sym (psk-sign b z nvar l p v) ∙ h b l ∙ sym (label-bit payload at w b bits l))
 
-    pub read-by : nearest (alphabet w) z .label ≡ labelAt payload at w → (b : ℕ) → b < w → signBit (softBit w (alphabet w) b z nvar) ≡ getD payload (at + b) 0
+    pub read-by : nearest (alphabet w) z .label ≡ labelAt payload at w → (b : ℕ) → b < w
+        → signBit (softBit w (alphabet w) b z nvar) ≡ getD payload (at + b) 0
     read-by e b l = psk-sign b z nvar l p v ∙ ap (labelBit w b) e ∙ label-bit payload at w b bits l

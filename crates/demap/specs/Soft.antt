@@ -1,4 +1,4 @@
--- The soft bits (01, "Reading": "Soft bits are `Demapper::soft_bits` with no weights"), for an alphabet of any size. Definitions only.
+-- The soft bits (01, "Reading"), for an alphabet of any size. Definitions only.
 use Prim.Native.Nat.{ℕ, zero, suc}
 use mathlib.Core.Bool.{false, cond}
 use mathlib.Core.List.{List}
@@ -22,14 +22,15 @@ unfoldable pub alternative : ℕ → List Complex → ℕ → ℕ → Complex �
 unfolding leastOf distSqr candidate
 alternative w points b h z = leastOf (λ i. distSqr z (pointAt points (candidate w points b h i))) 4
 
--- how much farther it is than the nearest point, in units of the noise, with a turned sign where the nearest label's bit b is 1
+-- how much farther it is than the nearest point, in units of the noise, with a turned sign where the nearest label's
+-- bit b is 1
 unfoldable pub softOf : ℕ → List Complex → ℕ → Complex → Closest → Float → Float
 unfolding alternative labelBit sub mul neg
 softOf w points b z best s =
     let v = mul binary64 (sub binary64 (alternative w points b (best .label) z) (best .distance)) s in
     cond (eqb (labelBit w b (best .label)) 0) v (neg v)
 
--- soft bit b of a step z
+-- "Soft bits are `Demapper::soft_bits` with no weights.": soft bit b of a step z
 unfoldable pub softBit : ℕ → List Complex → ℕ → Complex → Float → Float
 unfolding softOf nearest div
 softBit w points b z nvar = softOf w points b z (nearest points z) (div binary64 fone nvar)

@@ -1,5 +1,5 @@
 -- `SignLaw` holds, once over the size of the alphabet. Assumes nothing.
-use Prim.Native.Nat.{ℕ, zero, suc, _+_, _^_, _≤_, _<_}
+use Prim.Native.Nat.{ℕ, zero, suc, _+_, _^_, _<_}
 use mathlib.Core.Path.{_≡_, refl, _∙_}
 use mathlib.Core.Bool.{Bool, true, false, cond}
 use mathlib.Core.List.{List}
@@ -30,18 +30,21 @@ unfolding leastOf
 least-step d n = rw add-one refl
 
 -- a turn of a loop that keeps the least: entry n is below it, or it isn't
-pub least-taken : (d : ℕ → Float) (n : ℕ) (least e : Float) → least ≡ leastOf d n → e ≡ d n → lt e least ≡ true → e ≡ leastOf d (n + 1)
+pub least-taken : (d : ℕ → Float) (n : ℕ) (least e : Float) → least ≡ leastOf d n → e ≡ d n → lt e least ≡ true → e
+    ≡ leastOf d (n + 1)
 least-taken d n least e h g t =
     let u : lt (d n) (leastOf d n) ≡ true = cc in
     rw (least-step d n, u) g
 
-pub least-left : (d : ℕ → Float) (n : ℕ) (least e : Float) → least ≡ leastOf d n → e ≡ d n → lt e least ≡ false → least ≡ leastOf d (n + 1)
+pub least-left : (d : ℕ → Float) (n : ℕ) (least e : Float) → least ≡ leastOf d n → e ≡ d n → lt e least ≡ false → least
+    ≡ leastOf d (n + 1)
 least-left d n least e h g t =
     let u : lt (d n) (leastOf d n) ≡ false = cc in
     rw (least-step d n, u) h
 
 -- what holds of each of some finite distances holds of their least
-least-is : (P : Float → Type 0) (d : ℕ → Float) (n : ℕ) → ((i : ℕ) → i < suc n → T (plain (d i))) → ((i : ℕ) → i < suc n → P (d i)) → P (leastOf d (suc n))
+least-is : (P : Float → Type 0) (d : ℕ → Float) (n : ℕ) → ((i : ℕ) → i < suc n → T (plain (d i)))
+    → ((i : ℕ) → i < suc n → P (d i)) → P (leastOf d (suc n))
 unfolding leastOf
 least-is P d zero h p = rw (plain-below-inf (d 0) (h 0 (omega arith))) (p 0 (omega arith))
 least-is P d (suc n) h p =
@@ -79,19 +82,23 @@ bit-below : (w b label : ℕ) → labelBit w b label < 2
 unfolding labelBit
 bit-below w b label = omega arith
 
-soft-fits : (w : ℕ) (points : List Complex) (b : ℕ) (z : Complex) (r : Closest) (s : Float) → T (fits binary64 (softOf w points b z r s))
+soft-fits : (w : ℕ) (points : List Complex) (b : ℕ) (z : Complex) (r : Closest) (s : Float)
+    → T (fits binary64 (softOf w points b z r s))
 unfolding softOf
 soft-fits w points b z r s =
-    turned-fits (eqb (labelBit w b (r .label)) 0) (mul binary64 (sub binary64 (alternative w points b (r .label) z) (r .distance)) s)
+    turned-fits (eqb (labelBit w b (r .label)) 0) (mul binary64
+    (sub binary64 (alternative w points b (r .label) z) (r .distance)) s)
     (mul-fits binary64 (sub binary64 (alternative w points b (r .label) z) (r .distance)) s)
 
 module _ (w k : ℕ) (points : List Complex) (W : PointsWithin w k points) where
   -- the nearest point is the first of the least distances
   pub nearest-is : (z : Complex) → Near z k → First (λ j. distSqr z (pointAt points j)) (2 ^ w) (nearest points z)
   unfolding nearest
-  nearest-is z p = rw (W .count) (nearest-first (λ j. distSqr z (pointAt points j)) (2 ^ w) (pow-pos w) (λ j l. dist-plain z (pointAt points j) k (W .room) p (W .near j l)))
+  nearest-is z p = rw (W .count) (nearest-first (λ j. distSqr z (pointAt points j)) (2 ^ w) (pow-pos w)
+      (λ j l. dist-plain z (pointAt points j) k (W .room) p (W .near j l)))
 
-  soft-signed : (b : ℕ) (z : Complex) (s : Float) → b < w → Near z k → T (plain s) → Signed (eqb (labelBit w b (nearest points z .label)) 1) (softOf w points b z (nearest points z) s)
+  soft-signed : (b : ℕ) (z : Complex) (s : Float) → b < w → Near z k → T (plain s)
+      → Signed (eqb (labelBit w b (nearest points z .label)) 1) (softOf w points b z (nearest points z) s)
   unfolding softOf alternative
   soft-signed b z s B p S =
       let r = nearest points z in
@@ -99,13 +106,18 @@ module _ (w k : ℕ) (points : List Complex) (W : PointsWithin w k points) where
       let candidates : ℕ → Complex = λ i. pointAt points (candidate w points b (r .label) i) in
       let d : ℕ → Float = λ i. distSqr z (candidates i) in
       let c = candidate-is w b (r .label) points (W .count) B (f .label-below) in
-      let dh : T (plain (r .distance)) = rw (f .distance-at) (dist-plain z (pointAt points (r .label)) k (W .room) p (W .near (r .label) (f .label-below))) in
-      let h : (i : ℕ) → i < 4 → T (plain (d i)) = λ i l. dist-plain z (candidates i) k (W .room) p (W .near (candidate w points b (r .label) i) (c i .0)) in
+      let dh : T (plain (r .distance)) = rw (f .distance-at)
+      (dist-plain z (pointAt points (r .label)) k (W .room) p (W .near (r .label) (f .label-below))) in
+      let h : (i : ℕ) → i < 4 → T (plain (d i)) =
+      λ i l. dist-plain z (candidates i) k (W .room) p (W .near (candidate w points b (r .label) i) (c i .0)) in
       let no-less : T (le (r .distance) (leastOf d 4)) =
-      least-is (λ x. T (le (r .distance) x)) d 3 h (λ i l. rw (f .least (candidate w points b (r .label) i) (c i .0)) tt) in
+      least-is (λ x. T (le (r .distance) x)) d 3 h (λ i l. rw
+      (f .least (candidate w points b (r .label) i) (c i .0)) tt) in
       let difference : T (plain (sub binary64 (leastOf d 4) (r .distance))) =
-      sub-plain binary64 (leastOf d 4) (r .distance) (least-is (λ x. T (fits binary64 x)) d 3 h (λ i l. dist-fits z (candidates i))) (least-is (λ x. T (plain x)) d 3 h h) dh no-less in
-      turned (labelBit w b (r .label)) (mul binary64 (sub binary64 (leastOf d 4) (r .distance)) s) (bit-below w b (r .label))
+      sub-plain binary64 (leastOf d 4) (r .distance) (least-is (λ x. T (fits binary64 x)) d 3 h
+      (λ i l. dist-fits z (candidates i))) (least-is (λ x. T (plain x)) d 3 h h) dh no-less in
+      turned (labelBit w b (r .label)) (mul binary64 (sub binary64 (leastOf d 4) (r .distance)) s)
+      (bit-below w b (r .label))
       (mul-plain-signed binary64 (sub binary64 (leastOf d 4) (r .distance)) s difference S)
 
 pub soft-sign : SignLaw
@@ -113,5 +125,6 @@ unfolding SignLaw softBit
 soft-sign w k points W b B z p nvar v =
     let r = nearest points z in
     let s = div binary64 fone nvar in
-    sign-bit-of (eqb (labelBit w b (r .label)) 1) (softOf w points b z r s) (soft-signed w k points W b z s B p (variance-recip nvar v)) (soft-fits w points b z r s)
+    sign-bit-of (eqb (labelBit w b (r .label)) 1) (softOf w points b z r s)
+    (soft-signed w k points W b z s B p (variance-recip nvar v)) (soft-fits w points b z r s)
     ∙ as-bit (labelBit w b (r .label)) (bit-below w b (r .label))

@@ -99,7 +99,8 @@ fn soft_bit(bps: usize, b: usize, z: Complex, best: Closest, s: f64) -> f64
 // The soft bits of z, from place `at` on.
 pub fn soft_bits(bps: usize, z: Complex, nvar: f64, out: &mut [f64], at: usize)
     requires { ⌜ (1 ≤ bps) × (bps ≤ 2) × (at + bps ≤ length (now out)) ⌝ }
-    ensures { λ _. ⌜ now (out .exit) ≡ filledFrom at (λ b. softBit bps (alphabet bps) b z nvar) bps (now (out .entry)) ⌝ }
+    ensures { λ _. ⌜ now (out .exit)
+        ≡ filledFrom at (λ b. softBit bps (alphabet bps) b z nvar) bps (now (out .entry)) ⌝ }
 {
     let best = nearest(bps, z);
     let s = 1.0 / nvar;

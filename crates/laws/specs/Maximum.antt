@@ -1,7 +1,8 @@
 -- The maximum, for a c that is no NaN and not −0, and the reciprocal of what is bounded below. Assumes nothing.
 use mathlib.Core.Path.{_≡_, refl, sym, ap, _∙_}
 use Prim.Native.Nat.{ℕ, zero, suc, _*_, _^_, _≤_, _<_}
-use native.Mathlib.Nat.{le-refl, le-trans, le-of-eq, le-of-mul-le-mul-right, zero-lt-suc, zero-mul, mul-zero, mul-one, one-mul, mul-comm, mul-assoc, mul-le-mul-left, mul-le-mul-right}
+use native.Mathlib.Nat.{le-refl, le-trans, le-of-eq, le-of-mul-le-mul-right, zero-lt-suc, zero-mul, mul-zero, mul-one}
+use native.Mathlib.Nat.{one-mul, mul-comm, mul-assoc, mul-le-mul-left, mul-le-mul-right}
 use native.Mathlib.Omega.{arith}
 use mathlib.Core.Bool.{Bool, true, false, cond, true≢false}
 use lib.IntN.{pos}
@@ -50,20 +51,26 @@ not-zero n u p d D h e =
     let z : p * (n * u) ≡ 0 = ap (λ (k : ℕ). p * (k * u)) e ∙ simp (zero-mul, mul-zero) in
     omega arith
 
-pub recip-plain : (f : Format) (c y : Float) (k : ℕ) → k ≤ emax f → T (plain c) → den c ≤ 2 ^ k * num c → Signed false y → T (le c y) → T (plain (div f (fin false 1 (pos 0)) y))
+pub recip-plain : (f : Format) (c y : Float) (k : ℕ) → k ≤ emax f → T (plain c) → den c ≤ 2 ^ k * num c
+    → Signed false y → T (le c y) → T (plain (div f (fin false 1 (pos 0)) y))
 unfolding div
 recip-plain f c nan k K p h q l = q
 recip-plain f c (inf true) k K p h q l = absurd (true≢false q)
 recip-plain f c (inf false) k K p h q l = tt
 recip-plain f c (fin true n d) k K p h q l = absurd (true≢false q)
 recip-plain f c (fin false n d) k K p h q l =
-    let g : down d ≤ 2 ^ k * (n * up d) = cross-recip (2 ^ k) (num c) (den c) (n * up d) (down d) (den-pos c) h (le-cross c (fin false n d) p tt l) in
+    let g : down d ≤ 2 ^ k * (n * up d) =
+    cross-recip (2 ^ k) (num c) (den c) (n * up d) (down d) (den-pos c) h (le-cross c (fin false n d) p tt l) in
     go (eqb n 0) (λ t. not-zero n (up d) (2 ^ k) (down d) (down-pos d) g (eqb→eq n 0 t)) g
   where
-    go : (b : Bool) → (T b → ⊥) → down d ≤ 2 ^ k * (n * up d) → T (plain (cond b (cond (eqb 1 0) nan (inf false)) (round f false (1 * up (pos 0) * down d) (n * up d * down (pos 0)))))
+    go : (b : Bool) → (T b → ⊥) → down d ≤ 2 ^ k * (n * up d)
+        → T (plain (cond b (cond (eqb 1 0) nan (inf false))
+        (round f false (1 * up (pos 0) * down d) (n * up d * down (pos 0)))))
     go true z g = absurd (z tt)
     go false z g =
-        within-plain (round f false (1 * down d) (n * up d * 1)) k (round-within f false (1 * down d) (n * up d * 1) k (first (2 ^ k) (n * up d) (down d) (down-pos d) g) K (simp (one-mul, mul-one) g))
+        within-plain (round f false (1 * down d) (n * up d * 1)) k
+        (round-within f false (1 * down d) (n * up d * 1) k (first (2 ^ k) (n * up d) (down d) (down-pos d) g) K
+        (simp (one-mul, mul-one) g))
         (round-signed f false (1 * down d) (n * up d * 1))
       where
         first : (p N D : ℕ) → 0 < D → D ≤ p * N → 0 < N * 1

@@ -1,9 +1,11 @@
--- The IEEE order: `lt` is asymmetric and transitive, and total on the floats that are no NaN, infinities included; `le x y` is that y is not below x. Assumes nothing.
+-- The IEEE order: asymmetric, transitive and total on the floats that are no NaN. Assumes nothing.
+-- Infinities are included; `le x y` is that y is not below x.
 use mathlib.Core.Path.{_≡_, refl, sym, _∙_, ap}
 use mathlib.Core.Logic.{⊎-elim}
 use mathlib.Core.Bool.{Bool, true, false, not, _&&_, _||_, or-true, and-false, true≢false}
 use Prim.Native.Nat.{ℕ, zero, suc, _+_, _*_, _≤_, _<_}
-use native.Mathlib.Nat.{le-of-lt, eq-or-lt-of-le, mul-right-comm, mul-le-mul-right, mul-lt-mul-of-pos-right, mul-pos, lt-of-mul-lt-mul-right, zero-mul, lt-of-le-of-lt, lt-of-lt-of-le}
+use native.Mathlib.Nat.{le-of-lt, eq-or-lt-of-le, mul-right-comm, mul-le-mul-right, mul-lt-mul-of-pos-right, mul-pos}
+use native.Mathlib.Nat.{lt-of-mul-lt-mul-right, zero-mul, lt-of-le-of-lt, lt-of-lt-of-le}
 use native.Mathlib.Omega.{arith}
 use lib.Dec.{T, ltb, eqb}
 use lib.Ieee.{Float, nan, inf, fin, lt, le, ne, up, down, below, level, isNan}
@@ -58,7 +60,8 @@ below-opposite x y (suc z) a b c ha hc h l = omega (arith, mul-pos {m = suc z} {
 
 below-step : (s t u : Bool) (x y z a b c : ℕ) → 0 < a → 0 < b → 0 < c
     → below t (y * a) s (x * b) ≡ false → below t (y * c) u (z * b) ≡ true → below s (x * c) u (z * a) ≡ true
-below-step false false false x y z a b c ha hb hc p q = lt-ltb (x * c) (z * a) (cross-le-lt x y z a b c ha (ltb-false _ _ p) (ltb-true _ _ q))
+below-step false false false x y z a b c ha hb hc p q =
+    lt-ltb (x * c) (z * a) (cross-le-lt x y z a b c ha (ltb-false _ _ p) (ltb-true _ _ q))
 below-step false false true x y z a b c ha hb hc p q = q
 below-step true false false x y z a b c ha hb hc p q =
     lt-ltb 0 (x * c + z * a)
@@ -74,8 +77,10 @@ below-step false true true x y z a b c ha hb hc p q =
     let y0 : y ≡ 0 = zero-factor y a ha (omega (arith, ltb-false 0 (y * a + x * b) p)) in
     let yc : y * c ≡ 0 = rw y0 (zero-mul c) in
     absurd (omega (arith, ltb-true (z * b) (y * c) q))
-below-step true true false x y z a b c ha hb hc p q = lt-ltb 0 (x * c + z * a) (below-opposite x y z a b c ha hc (ltb-true 0 (y * c + z * b) q) (ltb-false _ _ p))
-below-step true true true x y z a b c ha hb hc p q = lt-ltb (z * a) (x * c) (cross-lt-le z y x c b a ha (ltb-true _ _ q) (ltb-false _ _ p))
+below-step true true false x y z a b c ha hb hc p q =
+    lt-ltb 0 (x * c + z * a) (below-opposite x y z a b c ha hc (ltb-true 0 (y * c + z * b) q) (ltb-false _ _ p))
+below-step true true true x y z a b c ha hb hc p q =
+    lt-ltb (z * a) (x * c) (cross-lt-le z y x c b a ha (ltb-true _ _ q) (ltb-false _ _ p))
 
 -- the steps where x is an infinity: y is not below it, so x is -∞
 inf-step : (s t u : Bool) → t && not s ≡ false → t && not u ≡ true → s && not u ≡ true
@@ -116,7 +121,8 @@ lt-step (fin s j e) (inf t) (fin u k g) n p q = clash (sym p ∙ q)
 lt-step (fin s j e) (fin t m d) nan n p q = clash q
 lt-step (fin s j e) (fin t m d) (inf u) n p q = q
 lt-step (fin s j e) (fin t m d) (fin u k g) n p q =
-    below-step s t u (j * up e) (m * up d) (k * up g) (down e) (down d) (down g) (down-pos e) (down-pos d) (down-pos g) p q
+    below-step s t u (j * up e) (m * up d) (k * up g) (down e) (down d) (down g) (down-pos e) (down-pos d)
+    (down-pos g) p q
 
 below-asym : (s t : Bool) (a b : ℕ) → below s a t b ≡ true → below t b s a ≡ false
 below-asym false false a b e = le-ltb b a (omega (arith, ltb-true a b e))
@@ -169,17 +175,25 @@ ordered a b e same greater = go (ltb b a) refl
   where
     go : (t : Bool) → ltb b a ≡ t → ltb a b || e ≡ not t
     go true h = rw (le-ltb a b (le-of-lt (ltb-true b a h))) (greater (ltb-true b a h))
-    go false h = ⊎-elim (λ g. rw (same g) (or-true (ltb a b))) (λ l. rw (lt-ltb a b l)) (eq-or-lt-of-le (ltb-false b a h))
+    go false h =
+        ⊎-elim (λ g. rw (same g) (or-true (ltb a b))) (λ l. rw (lt-ltb a b l)) (eq-or-lt-of-le (ltb-false b a h))
 
 level-below : (s t : Bool) (a b : ℕ) → below s a t b || level s a t b ≡ not (below t b s a)
-level-below false false a b = ordered a b (eqb a b && true) (λ g. rw (eq-eqb a b g)) (λ l. rw (ne-eqb a b (λ g. not-equal b a l (sym g))))
+level-below false false a b =
+    ordered a b (eqb a b && true) (λ g. rw (eq-eqb a b g)) (λ l. rw (ne-eqb a b (λ g. not-equal b a l (sym g))))
 level-below false true zero zero = refl
-level-below false true zero (suc b) = rw (ne-eqb 0 (suc b) (λ g. not-equal 0 (suc b) (omega arith) g), lt-ltb 0 (suc b + 0) (omega arith))
-level-below false true (suc a) b = rw (ne-eqb (suc a) 0 (λ g. not-equal 0 (suc a) (omega arith) (sym g)), lt-ltb 0 (b + suc a) (omega arith)) (and-false (eqb (suc a) b))
+level-below false true zero (suc b) =
+    rw (ne-eqb 0 (suc b) (λ g. not-equal 0 (suc b) (omega arith) g), lt-ltb 0 (suc b + 0) (omega arith))
+level-below false true (suc a) b = rw (
+  ne-eqb (suc a) 0 (λ g. not-equal 0 (suc a) (omega arith) (sym g)),
+  lt-ltb 0
+      (b + suc a) (omega arith),
+) (and-false (eqb (suc a) b))
 level-below true false zero zero = refl
 level-below true false zero (suc b) = rw (lt-ltb 0 (0 + suc b) (omega arith))
 level-below true false (suc a) b = rw (lt-ltb 0 (suc a + b) (omega arith))
-level-below true true a b = ordered b a (eqb a b && true) (λ g. rw (eq-eqb a b (sym g))) (λ l. rw (ne-eqb a b (not-equal a b l)))
+level-below true true a b =
+    ordered b a (eqb a b && true) (λ g. rw (eq-eqb a b (sym g))) (λ l. rw (ne-eqb a b (not-equal a b l)))
 
 pub le-is-not-lt : (x y : Float) → isNan x ≡ false → isNan y ≡ false → le x y ≡ not (lt y x)
 unfolding le isNan

@@ -71,10 +71,12 @@ le-cross (fin false m e) (fin true n d) p q h = absurd q
 le-cross (fin false m e) (fin false n d) p q h =
     let a = m * up e * down d in
     let b = n * up d * down e in
-    or-elim (ltb a b) (eqb a b && true) (λ t. le-trans (le-suc a) (ltb→lt a b t)) (λ t. le-of-eq (eqb→eq a b (and-l (eqb a b) true t))) h
+    or-elim (ltb a b) (eqb a b && true) (λ t. le-trans (le-suc a) (ltb→lt a b t))
+    (λ t. le-of-eq (eqb→eq a b (and-l (eqb a b) true t))) h
 
 pub cross-le : (x y : Float) → T (plain x) → T (plain y) → num x * den y ≤ num y * den x → T (le x y)
-cross-le x y p q h = le-of-values x y (num x) (den x) (num y) (den y) (den-pos x) (den-pos y) (plain-value x p) (plain-value y q) h
+cross-le x y p q h =
+    le-of-values x y (num x) (den x) (num y) (den y) (den-pos x) (den-pos y) (plain-value x p) (plain-value y q) h
 
 -- what is at most a finite value is finite
 pub plain-below : (x y : Float) → Signed false x → T (plain y) → T (le x y) → T (plain x)

@@ -1,4 +1,4 @@
--- What the tests of a range and of a size say of a float: it is finite, and no larger than the ends are. Assumes nothing.
+-- What passes the tests of a range and of a size is finite, and no larger than the ends are. Assumes nothing.
 use mathlib.Core.Path.{_≡_, sym}
 use mathlib.Core.Logic.{⊎-elim}
 use Prim.Native.Nat.{ℕ, _+_, _*_, _^_, _≤_, _<_}
@@ -18,11 +18,13 @@ use Rattle.laws.specs.Floats.{Within}
 
 -- ---- ±a ≤ ±b: a bound above for what is not negative, and one below for what is negative
 size-above : (t : Bool) (a b : ℕ) → T (below false a t b || level false a t b) → a ≤ b
-size-above false a b h = or-elim (ltb a b) (eqb a b && true) (λ t. le-of-lt (ltb→lt a b t)) (λ t. le-of-eq (eqb→eq a b (and-l (eqb a b) true t))) h
+size-above false a b h = or-elim (ltb a b) (eqb a b && true) (λ t. le-of-lt (ltb→lt a b t))
+    (λ t. le-of-eq (eqb→eq a b (and-l (eqb a b) true t))) h
 size-above true a b h = le-of-eq (eqb→eq a b (and-l (eqb a b) (eqb a 0) h))
 
 size-below : (t : Bool) (a b : ℕ) → T (below t a true b || level t a true b) → b ≤ a
-size-below true a b h = or-elim (ltb b a) (eqb a b && true) (λ t. le-of-lt (ltb→lt b a t)) (λ t. le-of-eq (sym (eqb→eq a b (and-l (eqb a b) true t)))) h
+size-below true a b h = or-elim (ltb b a) (eqb a b && true) (λ t. le-of-lt (ltb→lt b a t))
+    (λ t. le-of-eq (sym (eqb→eq a b (and-l (eqb a b) true t)))) h
 size-below false a b h = le-of-eq (sym (eqb→eq a b (and-l (eqb a b) (eqb a 0) h)))
 
 -- X / x ≤ Y / y ≤ p
@@ -53,11 +55,13 @@ in-range-within (fin t n d) (fin u o g) (inf false) k p q h = absurd h
 in-range-within (fin t n d) (fin u o g) (fin true m e) k p q h =
     let low = fin t n d in
     let x = fin true m e in
-    cross-under (m * up e) (down e) (n * up d) (down d) (2 ^ k) (down-pos d) (size-below t (n * up d * down e) (m * up e * down d) (and-l (le low x) (le x (fin u o g)) h)) p
+    cross-under (m * up e) (down e) (n * up d) (down d) (2 ^ k) (down-pos d)
+    (size-below t (n * up d * down e) (m * up e * down d) (and-l (le low x) (le x (fin u o g)) h)) p
 in-range-within (fin t n d) (fin u o g) (fin false m e) k p q h =
     let high = fin u o g in
     let x = fin false m e in
-    cross-under (m * up e) (down e) (o * up g) (down g) (2 ^ k) (down-pos g) (size-above u (m * up e * down g) (o * up g * down e) (and-r (le (fin t n d) x) (le x high) h)) q
+    cross-under (m * up e) (down e) (o * up g) (down g) (2 ^ k) (down-pos g)
+    (size-above u (m * up e * down g) (o * up g * down e) (and-r (le (fin t n d) x) (le x high) h)) q
 
 -- ---- a size
 neg-finite : (x : Float) → T (finite x) → T (finite (neg x))
@@ -84,7 +88,8 @@ le-or a b r k h = ⊎-elim (λ e. or-right (ltb a b) r (k e)) (λ l. lt-or a b r
 equal : (a b : ℕ) → a ≡ b → T (eqb a b && true)
 equal a b e = and-i (eqb a b) true (eq→eqb e) tt
 
-pub size-in-size : (bound x : Float) → T (positive bound) → T (finite x) → num x * den bound ≤ num bound * den x → T (inSize bound x)
+pub size-in-size : (bound x : Float) → T (positive bound) → T (finite x) → num x * den bound ≤ num bound * den x
+    → T (inSize bound x)
 unfolding inSize inRange le neg
 size-in-size nan x p q h = absurd p
 size-in-size (inf t) x p q h = absurd p
@@ -95,12 +100,14 @@ size-in-size (fin false n d) (fin true m e) p q h =
     let a = m * up e * down d in
     let b = n * up d * down e in
     let b-pos : 0 < b = mul-pos (mul-pos (ltb→lt 0 n p) (up-pos d)) (down-pos e) in
-    and-i (le (fin true n d) (fin true m e)) (le (fin true m e) (fin false n d)) (le-or a b (eqb b a && true) (λ g. equal b a (sym g)) h) (lt-or 0 (a + b) (eqb a b && eqb a 0) (omega arith))
+    and-i (le (fin true n d) (fin true m e)) (le (fin true m e) (fin false n d))
+    (le-or a b (eqb b a && true) (λ g. equal b a (sym g)) h) (lt-or 0 (a + b) (eqb a b && eqb a 0) (omega arith))
 size-in-size (fin false n d) (fin false m e) p q h =
     let a = m * up e * down d in
     let b = n * up d * down e in
     let b-pos : 0 < b = mul-pos (mul-pos (ltb→lt 0 n p) (up-pos d)) (down-pos e) in
-    and-i (le (fin true n d) (fin false m e)) (le (fin false m e) (fin false n d)) (lt-or 0 (b + a) (eqb b a && eqb b 0) (omega arith)) (le-or a b (eqb a b && true) (λ g. equal a b g) h)
+    and-i (le (fin true n d) (fin false m e)) (le (fin false m e) (fin false n d))
+    (lt-or 0 (b + a) (eqb b a && eqb b 0) (omega arith)) (le-or a b (eqb a b && true) (λ g. equal a b g) h)
 
 pub within-in-size : (x : Float) (k : ℕ) → Within x k → T (inSize (fin false 1 (pos k)) x)
 within-in-size x k h = size-in-size (fin false 1 (pos k)) x tt (within-finite x k h) (within-num x k h)

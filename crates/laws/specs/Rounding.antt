@@ -1,14 +1,19 @@
--- `round` at the values of the format: such a value is its own rounding, it is known by its fraction, and a fraction is at most twice what it rounds to. Assumes nothing.
+-- `round` at the values of the format. Assumes nothing.
+-- Such a value is its own rounding, it is known by its fraction, and a fraction is at most twice what it rounds to.
 use mathlib.Core.Path.{_≡_, refl, sym, ap, _∙_, subst}
 use mathlib.Core.Logic.{_⊎_, inl, inr}
 use Prim.Native.Nat.{ℕ, zero, suc, _+_, _-_, _*_, _/_, _%_, _^_, _≤_, _<_, compare}
-use native.Mathlib.Nat.{le-trans, le-of-eq, le-antisymm, le-of-suc-le-suc, lt-of-lt-of-le, lt-of-not-le, not-le-of-lt, eq-zero-or-pos, zero-lt-suc, zero-mul, mul-one, one-mul, mul-comm, mul-assoc, mul-left-comm, mul-right-comm, mul-le-mul-right, mul-lt-mul-of-pos-right, lt-of-mul-lt-mul-right, le-of-mul-le-mul-right, eq-of-mul-eq-mul-right, mul-pos, lt-div-mul-add, div-lt-iff-lt-mul}
+use native.Mathlib.Nat.{le-trans, le-of-eq, le-antisymm, le-of-suc-le-suc, lt-of-lt-of-le, lt-of-not-le, not-le-of-lt}
+use native.Mathlib.Nat.{eq-zero-or-pos, zero-lt-suc, zero-mul, mul-one, one-mul, mul-comm, mul-assoc, mul-left-comm}
+use native.Mathlib.Nat.{mul-right-comm, mul-le-mul-right, mul-lt-mul-of-pos-right, lt-of-mul-lt-mul-right}
+use native.Mathlib.Nat.{le-of-mul-le-mul-right, eq-of-mul-eq-mul-right, mul-pos, lt-div-mul-add, div-lt-iff-lt-mul}
 use native.Mathlib.Omega.{arith}
 use mathlib.Core.Bool.{Bool, true, false, _&&_}
 use lib.IntN.{ℤ, pos, negsuc}
 use lib.Dec.{T, ltb, leb, eqb, ltb→lt, leb→le}
 use lib.Pow.{pow-add, pow-pos, pow-lt}
-use lib.Ieee.{Float, nan, inf, fin, Format, binary32, binary64, prec, emax, low, up, down, size, hid, round, fits, le, toBits, ofBits}
+use lib.Ieee.{Float, nan, inf, fin, Format, binary32, binary64, prec, emax, low, up, down, size, hid, round, fits, le}
+use lib.Ieee.{toBits, ofBits}
 use lib.Ieee.Digits.{back, size-le}
 use lib.Ieee.Fits.{two, down-pos, and-l, and-r, round-fits}
 use lib.Ieee.Bits.{ofBits-toBits}
@@ -49,7 +54,8 @@ smallest f nan p t h = absurd p
 smallest f (inf s) p t h = absurd p
 smallest f (fin s zero e) p t h = absurd (zero-not-above (0 * up e) (zero-mul (up e)) h)
 smallest f (fin s (suc m) e) p t h =
-    le-trans (fitting f s m e t .fine) (le-trans (le-of-eq (sym (one-mul (2 ^ low f)))) (mul-le-mul-right (2 ^ low f) h))
+    le-trans (fitting f s m e t .fine) (le-trans (le-of-eq (sym (one-mul (2 ^ low f))))
+    (mul-le-mul-right (2 ^ low f) h))
 
 -- ---- a finite value of the format is m * 2 ^ j of its smallest values
 pub record InUnits (f : Format) (x : Float) : Type 0 where
@@ -64,32 +70,48 @@ pow-le i j h = le-of-suc-le-suc (lt-of-not-le (λ (g : suc j ≤ i). not-le-of-l
 
 whole : (l : ℕ) (e : ℤ) → down e ≤ 2 ^ l → (j : ℕ) × (up e * 2 ^ l ≡ 2 ^ j * down e)
 whole l (pos k) h = (k + l, simp (mul-one, pow-add))
-whole l (negsuc k) h = (l - suc k, one-mul (2 ^ l) ∙ ap (λ (x : ℕ). 2 ^ x) (sym (back l (suc k) (pow-le (suc k) l h))) ∙ pow-add 2 (l - suc k) (suc k))
+whole l (negsuc k) h = (
+  l - suc k,
+  one-mul (2 ^ l) ∙ ap (λ (x : ℕ). 2 ^ x) (sym (back l (suc k) (pow-le (suc k) l h)))
+      ∙ pow-add 2 (l - suc k) (suc k),
+)
 
 pub in-units : (f : Format) (x : Float) → T (fits f x) → T (plain x) → InUnits f x
 in-units f nan t p = absurd p
 in-units f (inf s) t p = absurd p
 in-units f (fin true m e) t p = absurd p
-in-units f (fin false zero e) t p = record { m = 0; j = 0; value = (refl, simp zero-mul); few = pow-pos (prec f); under = pow-pos (low f + suc (emax f)) }
+in-units f (fin false zero e) t p = record {
+  m = 0;
+  j = 0;
+  value = (refl, simp zero-mul);
+  few = pow-pos
+      (prec f);
+  under = pow-pos (low f + suc (emax f));
+}
 in-units f (fin false (suc m) e) t p =
     let F = fitting f false m e t in
     let l = low f in
     let w = whole l e (F .fine) in
     let j = w .0 in
-    let v : suc m * up e * 2 ^ l ≡ suc m * 2 ^ j * down e = mul-assoc (suc m) (up e) (2 ^ l) ∙ ap (λ (x : ℕ). suc m * x) (w .1) ∙ sym (mul-assoc (suc m) (2 ^ j) (down e)) in
+    let v : suc m * up e * 2 ^ l ≡ suc m * 2 ^ j * down e = mul-assoc (suc m) (up e) (2 ^ l) ∙ ap
+    (λ (x : ℕ). suc m * x) (w .1) ∙ sym (mul-assoc (suc m) (2 ^ j) (down e)) in
     let u : suc m * 2 ^ j * down e < 2 ^ (l + suc (emax f)) * down e =
     subst (λ (x : ℕ). x < 2 ^ (l + suc (emax f)) * down e) v
-    (lt-of-lt-of-le (mul-lt-mul-of-pos-right (F .under) (pow-pos l)) (le-of-eq (simp (pow-add, mul-assoc, mul-comm, mul-left-comm)))) in
+    (lt-of-lt-of-le (mul-lt-mul-of-pos-right (F .under) (pow-pos l))
+    (le-of-eq (simp (pow-add, mul-assoc, mul-comm, mul-left-comm)))) in
     record { m = suc m; j = j; value = (refl, v); few = F .few; under = lt-of-mul-lt-mul-right (down e) u }
 
 -- it is its own rounding, as a number
-pub round-own : (f : Format) (x : Float) → T (fits f x) → T (plain x) → HasValue (round f false (num x) (den x)) false (num x) (den x)
+pub round-own : (f : Format) (x : Float) → T (fits f x) → T (plain x)
+    → HasValue (round f false (num x) (den x)) false (num x) (den x)
 round-own f x t p =
     let U = in-units f x t p in
-    round-exact f false (num x) (den x) (U .m) (U .j) (den-pos x) (U .few) (U .under) (value-plain x (U .m * 2 ^ U .j) (2 ^ low f) (U .value) .1)
+    round-exact f false (num x) (den x) (U .m) (U .j) (den-pos x) (U .few) (U .under)
+    (value-plain x (U .m * 2 ^ U .j) (2 ^ low f) (U .value) .1)
 
 -- ---- a value of the format is known by its fraction, since its bit pattern is
-bits-same : (f : Format) (x y : Float) → T (plain x) → T (plain y) → num x * den y ≡ num y * den x → toBits f x ≡ toBits f y
+bits-same : (f : Format) (x y : Float) → T (plain x) → T (plain y) → num x * den y ≡ num y * den x → toBits f x
+    ≡ toBits f y
 unfolding toBits
 bits-same f nan y p q h = absurd p
 bits-same f (inf s) y p q h = absurd p
@@ -100,12 +122,16 @@ bits-same f (fin false m e) (fin true n d) p q h = absurd q
 bits-same f (fin false m e) (fin false n d) p q h =
     ap (λ (v : ℕ). 0 + (size v - prec f) * hid f + v / 2 ^ (size v - prec f))
     (div-same (m * up e * 2 ^ low f) (down e) (n * up d * 2 ^ low f) (down d) (down-pos e) (down-pos d)
-    (mul-right-comm (m * up e) (2 ^ low f) (down d) ∙ ap (λ (v : ℕ). v * 2 ^ low f) h ∙ mul-right-comm (n * up d) (down e) (2 ^ low f)))
+    (mul-right-comm (m * up e) (2 ^ low f) (down d) ∙ ap (λ (v : ℕ). v * 2 ^ low f) h ∙ mul-right-comm (n * up d)
+    (down e) (2 ^ low f)))
 
-pub value-unique : (f : Format) (x y : Float) → T (fits f x) → T (fits f y) → T (plain x) → T (plain y) → num x * den y ≡ num y * den x → x ≡ y
-value-unique f x y s t p q h = sym (ofBits-toBits f x s) ∙ ap (λ (b : ℕ). ofBits f b) (bits-same f x y p q h) ∙ ofBits-toBits f y t
+pub value-unique : (f : Format) (x y : Float) → T (fits f x) → T (fits f y) → T (plain x) → T (plain y) → num x * den y
+    ≡ num y * den x → x ≡ y
+value-unique f x y s t p q h =
+    sym (ofBits-toBits f x s) ∙ ap (λ (b : ℕ). ofBits f b) (bits-same f x y p q h) ∙ ofBits-toBits f y t
 
-pub le-antisym : (f : Format) (x y : Float) → T (fits f x) → T (fits f y) → T (plain x) → T (plain y) → T (le x y) → T (le y x) → x ≡ y
+pub le-antisym : (f : Format) (x y : Float) → T (fits f x) → T (fits f y) → T (plain x) → T (plain y) → T (le x y)
+    → T (le y x) → x ≡ y
 le-antisym f x y s t p q h k = value-unique f x y s t p q (le-antisymm (le-cross x y p q h) (le-cross y x q p k))
 
 -- the same as `round-own`, as data
@@ -145,7 +171,8 @@ none-dropped : (z p : ℕ) → 2 ≤ p → z ≤ z - p → z - p ≡ 0
 none-dropped z p P h = omega arith
 
 pub round-half : (f : Format) (a c : ℕ) → 0 < c → T (plain (round f false a c))
-    → (a * den (round f false a c) ≤ 2 * num (round f false a c) * c) ⊎ ((num (round f false a c) ≡ 0) × (a * 2 ^ low f < c))
+    → (a * den (round f false a c) ≤ 2 * num (round f false a c) * c) ⊎
+    ((num (round f false a c) ≡ 0) × (a * 2 ^ low f < c))
 round-half f a c C t = go (eq-zero-or-pos K)
   where
     R : Float
@@ -166,9 +193,11 @@ round-half f a c C t = go (eq-zero-or-pos K)
     go : (K ≡ 0) ⊎ (0 < K) → (a * den R ≤ 2 * num R * c) ⊎ ((num R ≡ 0) × (a * L < c))
     go (inl e) =
         let l : a * L < c * 2 ^ k = closest-zero (a * L) (c * 2 ^ k) (mul-pos C (pow-pos k)) e in
-        let z : k ≡ 0 = none-dropped (size (a * L / c)) (prec f) (two f) (size-le (a * L / c) k (div-lt-iff-lt-mul C .1 (subst (λ (x : ℕ). a * L < x) (mul-comm c (2 ^ k)) l))) in
+        let z : k ≡ 0 = none-dropped (size (a * L / c)) (prec f) (two f)
+        (size-le (a * L / c) k (div-lt-iff-lt-mul C .1 (subst (λ (x : ℕ). a * L < x) (mul-comm c (2 ^ k)) l))) in
         inr (
-          eq-of-mul-eq-mul-right L (pow-pos (low f)) (num R) 0 (v ∙ ap (λ (x : ℕ). x * 2 ^ k * den R) e ∙ simp zero-mul),
+          eq-of-mul-eq-mul-right L (pow-pos (low f)) (num R) 0
+              (v ∙ ap (λ (x : ℕ). x * 2 ^ k * den R) e ∙ simp zero-mul),
           subst (λ (x : ℕ). a * L < x) (ap (λ (x : ℕ). c * 2 ^ x) z ∙ mul-one c) l,
         )
     go (inr p) =

@@ -1,4 +1,4 @@
--- The sign of a float that is no NaN, and of a rounded result: `round` keeps the sign that it is given. Assumes nothing.
+-- The sign of a float and of a rounded result: `round` keeps the sign that it is given. Assumes nothing.
 use mathlib.Core.Path.{_≡_, refl, sym, ap, _∙_, subst}
 use Prim.Native.Nat.{ℕ, zero, suc, _+_, _*_, _^_}
 use mathlib.Core.Bool.{Bool, true, false, not, cond}
@@ -30,7 +30,8 @@ unfolding units
 units-signed f s q k = go (ltb (q * 2 ^ k) (2 ^ (low f + suc (emax f))))
   where
     go : (b : Bool) → Signed s (cond b (odd (suc (prec f)) s q k (low f)) (inf s))
-    go true = value-signed (odd (suc (prec f)) s q k (low f)) s (q * 2 ^ k) (2 ^ low f) (odd-sign (suc (prec f)) s q k (low f))
+    go true = value-signed (odd (suc (prec f)) s q k (low f)) s (q * 2 ^ k) (2 ^ low f)
+        (odd-sign (suc (prec f)) s q k (low f))
     go false = refl
 
 pub round-signed : (f : Format) (s : Bool) (a c : ℕ) → Signed s (round f s a c)
@@ -40,7 +41,8 @@ units-neg : (f : Format) (s : Bool) (q k : ℕ) → units f (not s) q k ≡ neg 
 unfolding units neg
 units-neg f s q k = go (ltb (q * 2 ^ k) (2 ^ (low f + suc (emax f)))) q
   where
-    go : (b : Bool) (r : ℕ) → cond b (odd (suc (prec f)) (not s) r k (low f)) (inf (not s)) ≡ neg (cond b (odd (suc (prec f)) s r k (low f)) (inf s))
+    go : (b : Bool) (r : ℕ) → cond b (odd (suc (prec f)) (not s) r k (low f)) (inf (not s))
+        ≡ neg (cond b (odd (suc (prec f)) s r k (low f)) (inf s))
     go true zero = unfold odd in refl
     go true (suc r) = unfold odd in refl
     go false r = refl
@@ -56,12 +58,14 @@ neg-signed s nan p = p
 neg-signed s (inf t) p = ap not p
 neg-signed s (fin t m e) p = ap not p
 
-infinite-signed : (s t u : Bool) (b : Bool) → u ≡ unlike s t → T (not (isNan (cond b nan (inf u)))) → Signed (unlike s t) (cond b nan (inf u))
+infinite-signed : (s t u : Bool) (b : Bool) → u ≡ unlike s t → T (not (isNan (cond b nan (inf u))))
+    → Signed (unlike s t) (cond b nan (inf u))
 unfolding isNan
 infinite-signed s t u true e n = absurd n
 infinite-signed s t u false e n = e
 
-pub mul-signed : (f : Format) (s t : Bool) (x y : Float) → Signed s x → Signed t y → T (not (isNan (mul f x y))) → Signed (unlike s t) (mul f x y)
+pub mul-signed : (f : Format) (s t : Bool) (x y : Float) → Signed s x → Signed t y → T (not (isNan (mul f x y)))
+    → Signed (unlike s t) (mul f x y)
 unfolding mul
 mul-signed f s t nan y p q n = p
 mul-signed f s t (inf s') nan p q n = absurd q
@@ -71,4 +75,5 @@ mul-signed f s t (fin s' m e) nan p q n = absurd q
 mul-signed f s t (fin s' m e) (inf t') p q n = infinite-signed s t (unlike s' t') (eqb m 0) (cc) n
 mul-signed f s t (fin s' m e) (fin t' k d) p q n =
     let signs : unlike s' t' ≡ unlike s t = cc in
-    subst (λ (b : Bool). Signed b (mul f (fin s' m e) (fin t' k d))) signs (round-signed f (unlike s' t') (m * up e * (k * up d)) (down e * down d))
+    subst (λ (b : Bool). Signed b (mul f (fin s' m e) (fin t' k d))) signs
+    (round-signed f (unlike s' t') (m * up e * (k * up d)) (down e * down d))

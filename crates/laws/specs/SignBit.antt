@@ -5,7 +5,8 @@ use native.Mathlib.Nat.{div-eq-of-lt, div-eq-of-lt-le, add-assoc}
 use native.Mathlib.Omega.{arith}
 use mathlib.Core.Bool.{Bool, true, false, cond}
 use lib.Dec.{T}
-use lib.Ieee.{Float, nan, inf, fin, Format, binary32, binary64, prec, up, down, size, low, ones, hid, top, fits, toBits}
+use lib.Ieee.{Float, nan, inf, fin, Format, binary32, binary64, prec, up, down, size, low, ones, hid, top, fits}
+use lib.Ieee.{toBits}
 use lib.Ieee.Bits.{toBits-lt}
 use Rattle.laws.specs.Tests.{signBit}
 use Rattle.laws.specs.Sign.{signed-of}
@@ -24,7 +25,8 @@ sign-bit f (fin u m e) t =
     let n = m * up e * 2 ^ low f / down e in
     let k = size n - prec f in
     ap (λ (a : ℕ). a / top f) (add-assoc (cond u (top f) 0) (k * hid f) (n / 2 ^ k))
-    ∙ top-bit u (top f) (k * hid f + n / 2 ^ k) (subst (λ (a : ℕ). a < 2 * top f) (add-assoc (top f) (k * hid f) (n / 2 ^ k)) (toBits-lt f (fin true m e) (any-sign m t)))
+    ∙ top-bit u (top f) (k * hid f + n / 2 ^ k) (subst (λ (a : ℕ). a < 2 * top f)
+    (add-assoc (top f) (k * hid f) (n / 2 ^ k)) (toBits-lt f (fin true m e) (any-sign m t)))
   where
     any-sign : (m : ℕ) → T (fits f (fin u m e)) → T (fits f (fin true m e))
     any-sign zero t = t

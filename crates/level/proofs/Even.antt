@@ -1,5 +1,5 @@
 -- The carriers of a row in arithmetic progression. Assumes nothing.
-use Prim.Native.Nat.{ℕ, _+_, _-_, _*_, _<_}
+use Prim.Native.Nat.{ℕ, _+_, _*_, _<_}
 use mathlib.Core.Path.{_≡_}
 use lib.ListN.{length, getD}
 use Rattle.complex.specs.Lists.{tabulate}

@@ -13,7 +13,8 @@ use Rattle.level.specs.Rows.{IsLayout}
 use Rattle.level.specs.RowLaws.{layout-rule, equal}
 
 -- -1 < len × share < 2 ^ 64
-pub part-fits : (l : Layout) → IsLayout l → T (Ieee.lt (fin true 1 (pos 0)) (part l)) × T (Ieee.lt (part l) (fin false 1 (pos 64)))
+pub part-fits : (l : Layout) → IsLayout l
+    → T (Ieee.lt (fin true 1 (pos 0)) (part l)) × T (Ieee.lt (part l) (fin false 1 (pos 64)))
 unfolding layoutOf cells allCells share Ieee.div Ieee.lt Ieee.mul Ieee.ofInt
 part-fits l i =
     let low : Layout → Bool = λ x. Ieee.lt (fin true 1 (pos 0)) (part x) in

@@ -1,4 +1,4 @@
--- The numbers of a layout (01, "Layouts" and "Search and hold"), each a definition over the row that fixes it. Definitions only.
+-- The numbers of a layout (01, "Layouts" and "Search and hold"), each over the row that fixes it. Definitions only.
 use Prim.Native.Nat.{ℕ, zero, suc, _+_, _-_, _*_, _/_, _%_, max}
 use mathlib.Core.Bool.{cond}
 use mathlib.Core.List.{[], _∷_}

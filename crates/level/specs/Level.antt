@@ -26,7 +26,15 @@ pub record Level : Type 0 where
 
 abbrev pub psk : (bandwidth rec spf bps markers : ℕ) → List ℕ → Pulse → Level
 psk bandwidth rec spf bps markers carriers pulse =
-    record { bandwidth = bandwidth; rec = rec; spf = spf; bps = bps; markers = markers; carriers = carriers; pulse = pulse }
+    record {
+      bandwidth = bandwidth;
+      rec = rec;
+      spf = spf;
+      bps = bps;
+      markers = markers;
+      carriers = carriers;
+      pulse = pulse;
+    }
 
 -- the fifteen PSK rows: bandwidth, record, spf, bps, markers, carriers, pulse
 abbrev pub levels : List Level
@@ -45,7 +53,8 @@ levels =
     psk 2750 7 355 2 6 (450 ∷ 870 ∷ 1290 ∷ 1710 ∷ 2130 ∷ 2550 ∷ []) rrc2 ∷
     psk 2750 8 352 2 5 (380 ∷ 700 ∷ 1020 ∷ 1340 ∷ 1660 ∷ 1980 ∷ 2300 ∷ 2620 ∷ []) rrc2 ∷
     psk 2750 9 349 2 4 (375 ∷ 625 ∷ 875 ∷ 1125 ∷ 1375 ∷ 1625 ∷ 1875 ∷ 2125 ∷ 2375 ∷ 2625 ∷ []) rrc1 ∷
-    psk 2750 10 349 2 3 (240 ∷ 450 ∷ 660 ∷ 870 ∷ 1080 ∷ 1290 ∷ 1500 ∷ 1710 ∷ 1920 ∷ 2130 ∷ 2340 ∷ 2550 ∷ 2760 ∷ []) rrc1 ∷
+    psk 2750 10 349 2 3
+    (240 ∷ 450 ∷ 660 ∷ 870 ∷ 1080 ∷ 1290 ∷ 1500 ∷ 1710 ∷ 1920 ∷ 2130 ∷ 2340 ∷ 2550 ∷ 2760 ∷ []) rrc1 ∷
     []
 
 -- 2: "record isn't PSK there"

@@ -1,4 +1,4 @@
--- What a bandwidth and a record choose is one of the fifteen rows: a test that is computed over them holds of it. Assumes nothing.
+-- What a bandwidth and a record choose is one of fifteen rows: a test computed over them holds of it. Assumes nothing.
 use Prim.Native.Nat.{ℕ, _≤_}
 use mathlib.Core.Path.{_≡_, refl, sym, ap, _∙_}
 use mathlib.Core.Bool.{Bool, true, false, _&&_, cond}
@@ -27,9 +27,11 @@ row-of hz rec l e = go (levelOf hz rec) refl e
 module _ (hz rec : ℕ) (m : Level) where
   passed : (f : Level → Bool) (ls : List Level) → T (every f ls) → lookup hz rec ls ≡ answered m → T (f m)
   passed f [] t e = never e
-  passed f (l ∷ ls) t e = go (eqb hz (l .bandwidth) && eqb rec (l .rec)) (passed f ls (and-right (f l) (every f ls) t)) e
+  passed f (l ∷ ls) t e =
+      go (eqb hz (l .bandwidth) && eqb rec (l .rec)) (passed f ls (and-right (f l) (every f ls) t)) e
     where
-      go : (b : Bool) → (lookup hz rec ls ≡ answered m → T (f m)) → cond b (answered l) (lookup hz rec ls) ≡ answered m → T (f m)
+      go : (b : Bool) → (lookup hz rec ls ≡ answered m → T (f m)) → cond b (answered l) (lookup hz rec ls) ≡ answered m
+          → T (f m)
       go true r g = let same : l ≡ m = cc in rw (sym same) (and-left (f l) (every f ls) t)
       go false r g = r g
 
@@ -37,7 +39,8 @@ module _ (hz rec : ℕ) (m : Level) where
   own [] e = never e
   own (l ∷ ls) e = go (eqb hz (l .bandwidth) && eqb rec (l .rec)) refl (own ls) e
     where
-      go : (b : Bool) → (eqb hz (l .bandwidth) && eqb rec (l .rec)) ≡ b → (lookup hz rec ls ≡ answered m → T (eqb hz (m .bandwidth) && eqb rec (m .rec)))
+      go : (b : Bool) → (eqb hz (l .bandwidth) && eqb rec (l .rec)) ≡ b
+          → (lookup hz rec ls ≡ answered m → T (eqb hz (m .bandwidth) && eqb rec (m .rec)))
           → cond b (answered l) (lookup hz rec ls) ≡ answered m → T (eqb hz (m .bandwidth) && eqb rec (m .rec))
       go true f r g = let same : l ≡ m = cc in rw (sym same, f) tt
       go false f r g = r g
@@ -56,8 +59,11 @@ module _ (hz rec : ℕ) (m : Level) where
 
   pub row-own : levelOf hz rec ≡ answered m → (hz ≡ m .bandwidth) × (rec ≡ m .rec)
   row-own e =
-      let t : T (eqb hz (m .bandwidth) && eqb rec (m .rec)) = own levels (looked e) in
-      (eqb→eq _ _ (and-left (eqb hz (m .bandwidth)) (eqb rec (m .rec)) t), eqb→eq _ _ (and-right (eqb hz (m .bandwidth)) (eqb rec (m .rec)) t))
+      let t : T (eqb hz (m .bandwidth) && eqb rec (m .rec)) = own levels (looked e) in (
+        eqb→eq _ _ (and-left (eqb hz (m .bandwidth)) (eqb rec (m .rec)) t),
+        eqb→eq _ _
+            (and-right (eqb hz (m .bandwidth)) (eqb rec (m .rec)) t),
+      )
 
 -- every chosen layout is one
 pub is-layout : (hz rec : ℕ) (l : Layout) → chosen hz rec ≡ answered l → IsLayout l

@@ -47,16 +47,19 @@ sized l i =
 isSpaced : Layout → ℕ → Bool
 isSpaced l c = eqb (carrierHz l c) (l .«first_hz» + c * l .«spacing_hz»)
 
-pub carriers-even : (l : Layout) → IsLayout l → (c : ℕ) → c < l .nc → carrierHz l c ≡ l .«first_hz» + c * l .«spacing_hz»
+pub carriers-even : (l : Layout) → IsLayout l → (c : ℕ) → c < l .nc → carrierHz l c
+    ≡ l .«first_hz» + c * l .«spacing_hz»
 unfolding layoutOf carrierHz levelOf isSpaced
-carriers-even l i c h = eqb→eq _ _ (below-at (isSpaced l) (l .nc) (layout-rule l i (λ x. below (isSpaced x) (x .nc)) tt) c h)
+carriers-even l i c h =
+    eqb→eq _ _ (below-at (isSpaced l) (l .nc) (layout-rule l i (λ x. below (isSpaced x) (x .nc)) tt) c h)
 
 inBand : Layout → ℕ → Bool
 inBand l c = leb (carrierHz l c) 2760
 
 pub carrier-most : (l : Layout) → IsLayout l → (c : ℕ) → c < l .nc → carrierHz l c ≤ 2760
 unfolding layoutOf carrierHz levelOf inBand
-carrier-most l i c h = leb→le _ _ (below-at (inBand l) (l .nc) (layout-rule l i (λ x. below (inBand x) (x .nc)) tt) c h)
+carrier-most l i c h =
+    leb→le _ _ (below-at (inBand l) (l .nc) (layout-rule l i (λ x. below (inBand x) (x .nc)) tt) c h)
 
 -- no carrier's stagger is above the greatest
 isWithin : Layout → ℕ → Bool
@@ -64,7 +67,8 @@ isWithin l c = leb (stagger (l .nc) c) (l .«max_stagger»)
 
 pub stagger-within : (l : Layout) → IsLayout l → (c : ℕ) → c < l .nc → stagger (l .nc) c ≤ l .«max_stagger»
 unfolding layoutOf greatestStagger stagger isWithin
-stagger-within l i c h = leb→le _ _ (below-at (isWithin l) (l .nc) (layout-rule l i (λ x. below (isWithin x) (x .nc)) tt) c h)
+stagger-within l i c h =
+    leb→le _ _ (below-at (isWithin l) (l .nc) (layout-rule l i (λ x. below (isWithin x) (x .nc)) tt) c h)
 
 -- a row of at most four frames
 pub row-most : (l : Layout) → IsLayout l → (frames : ℕ) → frames ≤ 4 → rowLength l frames ≤ 1809

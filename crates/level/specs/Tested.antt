@@ -1,4 +1,4 @@
--- A rule of a table from a test that is computed over it: at each entry of a list, and at each number below a bound. Assumes nothing.
+-- A rule from a test that is computed over a list, or over the numbers below a bound. Assumes nothing.
 use Prim.Native.Nat.{ℕ, zero, suc, _<_}
 use mathlib.Core.Path.{_≡_, refl}
 use mathlib.Core.Bool.{Bool, true, false, _&&_}

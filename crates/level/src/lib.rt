@@ -3,7 +3,8 @@ ghost use mathlib.Core.Path.{_≡_};
 ghost use Prim.Native.Nat.{_≤_, _<_};
 ghost use Rattle.level.specs.Layout.{stagger, greatestStagger, layoutOf, chosen, outcome};
 ghost use Rattle.level.specs.Even.{evenLevel, Sound};
-ghost use Rattle.level.specs.Lengths.{carrierHz, cells, rowLength, audioOf, audioLength, carrierAudioLength, memoryLength};
+ghost use Rattle.level.specs.Lengths.{carrierHz, cells, rowLength, audioOf, audioLength, carrierAudioLength};
+ghost use Rattle.level.specs.Lengths.{memoryLength};
 ghost use Rattle.level.specs.Rows.{IsLayout};
 ghost use Rattle.level.specs.Frames.{wrongFrames};
 ghost use Rattle.level.specs.Kept.{share, keptCells};
@@ -75,7 +76,8 @@ fn psk(
     }
 }
 
-// The layout that a bandwidth in Hz and a record choose. A row gives both numbers, spf, bps, markers, nc, first_hz, spacing_hz and taps.
+// The layout that a bandwidth in Hz and a record choose. A row gives both numbers, spf, bps, markers, nc, first_hz,
+// spacing_hz and taps.
 pub fn choose(bandwidth: u32, rec: u32) -> Chosen
     ensures { λ r. ⌜ outcome r ≡ chosen bandwidth rec ⌝ }
 {

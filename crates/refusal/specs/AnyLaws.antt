@@ -34,7 +34,8 @@ pub any-at : (f : ℕ → Bool) (n k : ℕ) → k < n → f k ≡ true → any f
 unfolding any
 any-at f zero k h g = absurd (not-suc-le-zero h)
 any-at f (suc n) k h g =
-    ⊎-elim (λ e. rw (← e, g) (or-true (any f k))) (λ l. rw (any-at f n k l g) refl) (eq-or-lt-of-le (le-of-suc-le-suc h))
+    ⊎-elim (λ e. rw (← e, g) (or-true (any f k))) (λ l. rw (any-at f n k l g) refl)
+    (eq-or-lt-of-le (le-of-suc-le-suc h))
 
 -- no entry meets it
 pub any-below : (f : ℕ → Bool) (n k : ℕ) → any f n ≡ false → k < n → f k ≡ false

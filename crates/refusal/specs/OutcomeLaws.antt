@@ -8,6 +8,7 @@ pub firstFault-append : (cs ds : List Check) → firstFault (cs ++ ds) ≡ orEls
 firstFault-append [] ds = refl
 firstFault-append (c ∷ cs) ds = go (c .1) (firstFault-append cs ds)
   where
-    go : (b : Bool) → firstFault (cs ++ ds) ≡ orElse (firstFault cs) (firstFault ds) → firstOf (c .0) b (firstFault (cs ++ ds)) ≡ orElse (firstOf (c .0) b (firstFault cs)) (firstFault ds)
+    go : (b : Bool) → firstFault (cs ++ ds) ≡ orElse (firstFault cs) (firstFault ds)
+        → firstOf (c .0) b (firstFault (cs ++ ds)) ≡ orElse (firstOf (c .0) b (firstFault cs)) (firstFault ds)
     go true h = refl
     go false h = h

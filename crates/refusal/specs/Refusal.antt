@@ -1,7 +1,11 @@
 -- The numbered conditions of 01, "Where each fault is met". Definitions only.
 use Prim.Native.Nat.{ℕ}
 use Rattle.refusal.specs.declared.Refusal.{Refusal}
-use Rattle.refusal.specs.declared.Refusal.the-variants.{Level, NotPsk, MarkerLength, MarkerValue, MarkerFlag, PhasorCount, PhasorSize, Frames, Payload, Draws, Buffer, Symbols, Window, Waves, Start, TurnBook, State, SampleCount, SampleNumber, SampleSize, Offer, NotInHand, DriftRows, Gain}
+use Rattle.refusal.specs.declared.Refusal.the-variants.{Level, NotPsk, MarkerLength, MarkerValue, MarkerFlag}
+use Rattle.refusal.specs.declared.Refusal.the-variants.{PhasorCount, PhasorSize, Frames, Payload, Draws, Buffer}
+use Rattle.refusal.specs.declared.Refusal.the-variants.{Symbols, Window, Waves, Start, TurnBook, State}
+use Rattle.refusal.specs.declared.Refusal.the-variants.{SampleCount, SampleNumber, SampleSize, Offer, NotInHand}
+use Rattle.refusal.specs.declared.Refusal.the-variants.{DriftRows, Gain}
 
 -- each condition's number, with the condition in short
 abbrev pub numberOf : Refusal → ℕ

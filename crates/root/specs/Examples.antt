@@ -1,4 +1,5 @@
--- The definitions at worked numbers: 2, 4, the least value above zero, the largest finite value, the signs, the infinities and a NaN; 3 - 4j and 0. Assumes nothing.
+-- The definitions at worked numbers. Assumes nothing.
+-- 2, 4, the least value above zero, the largest finite value, the signs, the infinities and a NaN; 3 - 4j and 0.
 use mathlib.Core.Path.{_≡_, refl}
 use mathlib.Core.Bool.{true, false}
 use lib.IntN.{pos}
@@ -47,7 +48,8 @@ three-four : normOf (cx (fin false 3 (pos 0)) (fin true 1 (pos 2))) ≡ fin fals
 unfolding normOf add mul
 three-four = refl
 
-unit-three-four : unitOf (cx (fin false 3 (pos 0)) (fin true 1 (pos 2))) ≡ cx (ofBits binary64 0x3fe3_3333_3333_3333) (ofBits binary64 0xbfe9_9999_9999_999a)
+unit-three-four : unitOf (cx (fin false 3 (pos 0)) (fin true 1 (pos 2)))
+    ≡ cx (ofBits binary64 0x3fe3_3333_3333_3333) (ofBits binary64 0xbfe9_9999_9999_999a)
 unfolding unitOf add mul div ofBits
 unit-three-four = refl
 

@@ -18,8 +18,8 @@ inUnits (inf s) = 0
 inUnits (fin s m e) = m * up e * 2 ^ 1074 / down e
 
 -- A value of u units, with a minus where `minus`, lies farther from √w units than one of y units does. The number half
--- way between the two is (y + u) / 2, or (y − u) / 2 with a minus. Where the value is above y, √w is below that number;
--- where it is below y, above it. For u above y, (y − u) / 2 is negative, and every root is above it.
+-- way between the two is (y + u) / 2, or (y − u) / 2 with a minus. Where the value is above y, √w is below that
+-- number; where it is below y, above it. For u above y, (y − u) / 2 is negative, and every root is above it.
 abbrev pub Farther : (w y : ℕ) → (minus : Bool) → (u : ℕ) → Type 0
 Farther w y false u = (y < u → 4 * w < (y + u) * (y + u)) × (u < y → (y + u) * (y + u) < 4 * w)
 Farther w y true u = u ≤ y → (y - u) * (y - u) < 4 * w

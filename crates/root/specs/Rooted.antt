@@ -1,8 +1,11 @@
--- The root of an x that is finite and above zero, in units of 2 ^ -1074, the least value above zero: √x is r * 2 ^ k units, r having 53 digits,
--- and the root of x lies half of 2 ^ k from it at most. Squares are compared as whole numbers. Assumes nothing.
+-- The root of an x that is finite and above zero, in units of 2 ^ -1074, the least value above zero. Assumes nothing.
+-- √x is r * 2 ^ k units, r having 53 digits, and the root of x lies half of 2 ^ k from it at most. Squares are
+-- compared as whole numbers.
 use mathlib.Core.Path.{_≡_, sym, ap, _∙_, subst}
 use Prim.Native.Nat.{ℕ, suc, _+_, _-_, _*_, _/_, _^_, _≤_, _<_}
-use native.Mathlib.Nat.{le-trans, le-of-eq, le-of-lt, lt-of-lt-of-le, lt-of-le-of-lt, lt-of-not-le, not-le-of-lt, zero-lt-suc, one-mul, mul-assoc, mul-le-mul-left, mul-le-mul-right, mul-lt-mul-of-pos-left, mul-lt-mul-of-pos-right, mul-mul-mul-comm, mul-pos}
+use native.Mathlib.Nat.{le-trans, le-of-eq, le-of-lt, lt-of-lt-of-le, lt-of-le-of-lt, lt-of-not-le, not-le-of-lt}
+use native.Mathlib.Nat.{zero-lt-suc, one-mul, mul-assoc, mul-le-mul-left, mul-le-mul-right, mul-lt-mul-of-pos-left}
+use native.Mathlib.Nat.{mul-lt-mul-of-pos-right, mul-mul-mul-comm, mul-pos}
 use native.Mathlib.Omega.{arith}
 use mathlib.Core.Bool.{Bool, true, false, not, cond}
 use lib.Dec.{T, leb, leb→le, nleb→lt, lit<, lit≤}
@@ -19,7 +22,8 @@ use Rattle.root.specs.Squares.{double-square, square-mono, root-lt, root
 use Rattle.root.specs.WholeRoot.{IsRoot}
 use Rattle.root.specs.RootUnits.{Kept, kept, sqrt-value, units-are}
 
--- x is m * 2 ^ j units. The root of x is less than r and a half above, and no less than r less a half; where r is the least of 53 digits, it is no less than r
+-- x is m * 2 ^ j units. The root of x is less than r and a half above, and no less than r less a half; where r is the
+-- least of 53 digits, it is no less than r
 pub record Rooted (x : Float) : Type 0 where
   pub m : ℕ
   pub j : ℕ
@@ -38,26 +42,35 @@ pub record Rooted (x : Float) : Type 0 where
 
 abbrev Picked : ℕ → ℕ → ℕ → Type 0
 Picked w k r =
-    (2 ^ 52 ≤ r) × (r * 2 ^ k < 2 ^ 2098) × ((2 * r - 1) * (2 * r - 1) * (2 ^ k * 2 ^ k) ≤ 4 * w) × (4 * w < (2 * r + 1) * (2 * r + 1) * (2 ^ k * 2 ^ k)) × (r ≡ 2 ^ 52 → r * r * (2 ^ k * 2 ^ k) ≤ w)
+    (2 ^ 52 ≤ r) × (r * 2 ^ k < 2 ^ 2098) × ((2 * r - 1) * (2 * r - 1) * (2 ^ k * 2 ^ k) ≤ 4 * w) ×
+    (4 * w < (2 * r + 1) * (2 * r + 1) * (2 ^ k * 2 ^ k)) × (r ≡ 2 ^ 52 → r * r * (2 ^ k * 2 ^ k) ≤ w)
 
-picked : (w k q : ℕ) → w < 2 ^ 3172 → Kept w k q → (b : Bool) → (T b → (2 * q + 1) * (2 * q + 1) * (2 ^ k * 2 ^ k) ≤ 4 * w) → (T (not b) → 4 * w < (2 * q + 1) * (2 * q + 1) * (2 ^ k * 2 ^ k))
+picked : (w k q : ℕ) → w < 2 ^ 3172 → Kept w k q → (b : Bool)
+    → (T b → (2 * q + 1) * (2 * q + 1) * (2 ^ k * 2 ^ k) ≤ 4 * w)
+    → (T (not b) → 4 * w < (2 * q + 1) * (2 * q + 1) * (2 ^ k * 2 ^ k))
     → Picked w k (cond b (suc q) q)
 picked w k q W K b ge lt = go b ge lt
   where
     size-ok : q * 2 ^ k < 2 ^ 1586
-    size-ok = root-lt (q * 2 ^ k) (2 ^ 1586) (lt-of-le-of-lt (le-of-eq (mul-mul-mul-comm q (2 ^ k) q (2 ^ k))) (lt-of-le-of-lt (K .from) W))
+    size-ok = root-lt (q * 2 ^ k) (2 ^ 1586) (lt-of-le-of-lt (le-of-eq (mul-mul-mul-comm q (2 ^ k) q (2 ^ k)))
+        (lt-of-le-of-lt (K .from) W))
 
     more : (q : ℕ) → 2 ^ 52 ≤ q → suc q ≤ 2 * q
     more q h = omega arith
 
-    go : (b : Bool) → (T b → (2 * q + 1) * (2 * q + 1) * (2 ^ k * 2 ^ k) ≤ 4 * w) → (T (not b) → 4 * w < (2 * q + 1) * (2 * q + 1) * (2 ^ k * 2 ^ k)) → Picked w k (cond b (suc q) q)
+    go : (b : Bool) → (T b → (2 * q + 1) * (2 * q + 1) * (2 ^ k * 2 ^ k) ≤ 4 * w)
+        → (T (not b) → 4 * w < (2 * q + 1) * (2 * q + 1) * (2 ^ k * 2 ^ k)) → Picked w k (cond b (suc q) q)
     go true h n =
         let e : 2 * suc q - 1 ≡ 2 * q + 1 = omega arith in
         let l = K .low in (
           omega arith,
-          lt-of-le-of-lt (mul-le-mul-right (2 ^ k) (more q (K .low))) (lt-of-le-of-lt (le-of-eq (mul-assoc 2 q (2 ^ k))) (double (q * 2 ^ k) size-ok)),
+          lt-of-le-of-lt (mul-le-mul-right (2 ^ k) (more q (K .low)))
+              (lt-of-le-of-lt (le-of-eq (mul-assoc 2 q (2 ^ k))) (double (q * 2 ^ k) size-ok)),
           subst (λ (x : ℕ). x * x * (2 ^ k * 2 ^ k) ≤ 4 * w) (sym e) (h tt),
-          lt-of-lt-of-le (four w ((q + 1) * (q + 1) * (2 ^ k * 2 ^ k)) (K .under)) (le-trans (le-of-eq (sym (mul-assoc 4 ((q + 1) * (q + 1)) (2 ^ k * 2 ^ k)) ∙ ap (λ (x : ℕ). x * (2 ^ k * 2 ^ k)) (sym (double-square (q + 1))))) (mul-le-mul-right (2 ^ k * 2 ^ k) (square-mono (2 * (q + 1)) (2 * suc q + 1) (omega arith)))),
+          lt-of-lt-of-le (four w ((q + 1) * (q + 1) * (2 ^ k * 2 ^ k)) (K .under))
+              (le-trans (le-of-eq (sym (mul-assoc 4 ((q + 1) * (q + 1)) (2 ^ k * 2 ^ k)) ∙ ap
+              (λ (x : ℕ). x * (2 ^ k * 2 ^ k)) (sym (double-square (q + 1)))))
+              (mul-le-mul-right (2 ^ k * 2 ^ k) (square-mono (2 * (q + 1)) (2 * suc q + 1) (omega arith)))),
           λ x. absurd (no-first q l x),
         )
       where
@@ -72,7 +85,9 @@ picked w k q W K b ge lt = go b ge lt
     go false h n = (
       K .low,
       lt-of-lt-of-le size-ok (lit≤ tt),
-      le-trans (mul-le-mul-right (2 ^ k * 2 ^ k) (square-mono (2 * q - 1) (2 * q) (omega arith))) (le-trans (le-of-eq (ap (λ (x : ℕ). x * (2 ^ k * 2 ^ k)) (double-square q) ∙ mul-assoc 4 (q * q) (2 ^ k * 2 ^ k))) (mul-le-mul-left 4 (K .from))),
+      le-trans (mul-le-mul-right (2 ^ k * 2 ^ k) (square-mono (2 * q - 1) (2 * q) (omega arith)))
+          (le-trans (le-of-eq (ap (λ (x : ℕ). x * (2 ^ k * 2 ^ k)) (double-square q) ∙ mul-assoc 4 (q * q)
+          (2 ^ k * 2 ^ k))) (mul-le-mul-left 4 (K .from))),
       n tt,
       λ x. K .from,
     )
@@ -91,7 +106,8 @@ rooted x F p =
     let R : IsRoot w s = whole-is w in
     let least : 2 ^ 1074 ≤ w = le-trans (le-of-eq (sym (one-mul (2 ^ 1074)))) (mul-le-mul-right (2 ^ 1074) N) in
     let s-lo : 2 ^ 52 ≤ s = root-le (2 ^ 52) s w (le-trans (lit≤ tt) least) (R .1) in
-    let z : 52 < size s = lt-of-not-le (λ (g : size s ≤ 52). not-le-of-lt (lt-of-lt-of-le (size-lt s) (pow-mono g)) s-lo) in
+    let z : 52 < size s =
+    lt-of-not-le (λ (g : size s ≤ 52). not-le-of-lt (lt-of-lt-of-le (size-lt s) (pow-mono g)) s-lo) in
     let k = size s - 53 in
     let q = s / 2 ^ k in
     let K : Kept w k q =
@@ -107,7 +123,8 @@ rooted x F p =
       r = cond b (suc q) q;
       k = k;
       value = U .value;
-      root = subst (λ (y : Float). HasValue y false (cond b (suc q) q * 2 ^ k) (2 ^ 1074)) (sym e) (units-val binary64 false (cond b (suc q) q) k (S .1));
+      root = subst (λ (y : Float). HasValue y false (cond b (suc q) q * 2 ^ k) (2 ^ 1074)) (sym e)
+          (units-val binary64 false (cond b (suc q) q) k (S .1));
       is = e;
       few = U .few;
       full = S .0;
@@ -122,9 +139,11 @@ rooted x F p =
 pub sqrt-positive : (x : Float) → T (fits binary64 x) → T (positive x) → T (positive (sqrtOf x))
 sqrt-positive x F p =
     let R = rooted x F p in
-    positive-of-value (sqrtOf x) (R .r * 2 ^ R .k) (2 ^ 1074) (R .root) (mul-pos (lt-of-lt-of-le (lit< tt) (R .full)) (pow-pos (R .k)))
+    positive-of-value (sqrtOf x) (R .r * 2 ^ R .k) (2 ^ 1074) (R .root)
+    (mul-pos (lt-of-lt-of-le (lit< tt) (R .full)) (pow-pos (R .k)))
 
 pub sqrt-positive-fits : (x : Float) → T (fits binary64 x) → T (positive x) → T (fits binary64 (sqrtOf x))
 sqrt-positive-fits x F p =
     let R = rooted x F p in
-    subst (λ (y : Float). T (fits binary64 y)) (sym (R .is ∙ units-are (R .r) (R .k) (R .room))) (odd-fits binary64 54 false (R .r) (R .k) (lt-of-le-of-lt (R .digits) (lit< tt)) (R .digits) (R .room))
+    subst (λ (y : Float). T (fits binary64 y)) (sym (R .is ∙ units-are (R .r) (R .k) (R .room)))
+    (odd-fits binary64 54 false (R .r) (R .k) (lt-of-le-of-lt (R .digits) (lit< tt)) (R .digits) (R .room))

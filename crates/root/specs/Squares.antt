@@ -1,7 +1,9 @@
--- Squares of whole numbers, and that `wholeRoot n` is the largest r with r * r ≤ n. Nothing here is about floats. Assumes nothing.
+-- Squares of whole numbers, and that `wholeRoot n` is the largest r with r * r ≤ n. Assumes nothing.
 use mathlib.Core.Path.{_≡_, refl, sym, ap, _∙_, subst}
 use Prim.Native.Nat.{ℕ, zero, suc, _+_, _*_, _/_, _^_, _≤_, _<_}
-use native.Mathlib.Nat.{le-trans, le-of-eq, le-of-suc-le-suc, lt-of-lt-of-le, lt-of-le-of-lt, lt-of-not-le, not-le-of-lt, zero-lt-suc, le-add-right, mul-add, add-mul, mul-le-mul, mul-mul-mul-comm, pow-suc, div-lt-iff-lt-mul}
+use native.Mathlib.Nat.{le-trans, le-of-eq, le-of-suc-le-suc, lt-of-lt-of-le, lt-of-le-of-lt, lt-of-not-le}
+use native.Mathlib.Nat.{not-le-of-lt, zero-lt-suc, le-add-right, mul-add, add-mul, mul-le-mul, mul-mul-mul-comm}
+use native.Mathlib.Nat.{pow-suc, div-lt-iff-lt-mul}
 use native.Mathlib.Numerals.{add-one}
 use native.Mathlib.Omega.{arith}
 use mathlib.Core.Bool.{Bool, true, false, not, cond}
@@ -25,7 +27,8 @@ pub square-mono : (a b : ℕ) → a ≤ b → a * a ≤ b * b
 square-mono a b h = mul-le-mul h h
 
 pub square-strict : (a b : ℕ) → a < b → a * a < b * b
-square-strict a b h = lt-of-lt-of-le (grows (a * a) ((a + 1) * (a + 1)) a (next-square a)) (square-mono (a + 1) b (le-trans (le-of-eq (add-one a)) h))
+square-strict a b h = lt-of-lt-of-le (grows (a * a) ((a + 1) * (a + 1)) a (next-square a))
+    (square-mono (a + 1) b (le-trans (le-of-eq (add-one a)) h))
   where
     grows : (s t a : ℕ) → t ≡ s + 2 * a + 1 → s < t
     grows s t a e = omega arith
@@ -42,7 +45,8 @@ root-le a b n h k = le-of-suc-le-suc (subst (λ (x : ℕ). a < x) (add-one b) (r
 
 pub four-pow : (k : ℕ) → 4 ^ k ≡ 2 ^ k * 2 ^ k
 four-pow zero = refl
-four-pow (suc k) = pow-suc 4 k ∙ ap (λ (x : ℕ). x * 4) (four-pow k) ∙ sym (ap (λ (x : ℕ). x * x) (pow-suc 2 k) ∙ mul-mul-mul-comm (2 ^ k) 2 (2 ^ k) 2)
+four-pow (suc k) = pow-suc 4 k ∙ ap (λ (x : ℕ). x * 4) (four-pow k) ∙ sym
+    (ap (λ (x : ℕ). x * x) (pow-suc 2 k) ∙ mul-mul-mul-comm (2 ^ k) 2 (2 ^ k) 2)
 
 pub root-of : (n r rem : ℕ) → RootRem n r rem → IsRoot n r
 root-of n r rem h = go n (r * r) ((r + 1) * (r + 1)) (next-square r) (h .sum) (h .small)
@@ -55,12 +59,16 @@ unfolding rootIn
 rootIn-is zero n h = (omega arith, omega arith)
 rootIn-is (suc d) n h =
     let s = rootIn d (n / 4) in
-    let ih : IsRoot (n / 4) s = rootIn-is d (n / 4) (div-lt-iff-lt-mul (zero-lt-suc 3) .1 (subst (λ (x : ℕ). n < x) (pow-suc 4 d) h)) in
-    go (leb ((2 * s + 1) * (2 * s + 1)) n) s ih (leb→le ((2 * s + 1) * (2 * s + 1)) n) (nleb→lt ((2 * s + 1) * (2 * s + 1)) n)
+    let ih : IsRoot (n / 4) s =
+    rootIn-is d (n / 4) (div-lt-iff-lt-mul (zero-lt-suc 3) .1 (subst (λ (x : ℕ). n < x) (pow-suc 4 d) h)) in
+    go (leb ((2 * s + 1) * (2 * s + 1)) n) s ih (leb→le ((2 * s + 1) * (2 * s + 1)) n)
+    (nleb→lt ((2 * s + 1) * (2 * s + 1)) n)
   where
-    go : (b : Bool) (s : ℕ) → IsRoot (n / 4) s → (T b → (2 * s + 1) * (2 * s + 1) ≤ n) → (T (not b) → n < (2 * s + 1) * (2 * s + 1)) → IsRoot n (cond b (2 * s + 1) (2 * s))
+    go : (b : Bool) (s : ℕ) → IsRoot (n / 4) s → (T b → (2 * s + 1) * (2 * s + 1) ≤ n)
+        → (T (not b) → n < (2 * s + 1) * (2 * s + 1)) → IsRoot n (cond b (2 * s + 1) (2 * s))
     go true s ih h k =
-        let e : (2 * s + 1 + 1) * (2 * s + 1 + 1) ≡ 4 * ((s + 1) * (s + 1)) = ap (λ (x : ℕ). x * x) (again s) ∙ double-square (s + 1) in
+        let e : (2 * s + 1 + 1) * (2 * s + 1 + 1) ≡ 4 * ((s + 1) * (s + 1)) =
+        ap (λ (x : ℕ). x * x) (again s) ∙ double-square (s + 1) in
         (h tt, omega arith)
       where
         again : (s : ℕ) → 2 * s + 1 + 1 ≡ 2 * (s + 1)
@@ -71,4 +79,5 @@ pub whole-is : (n : ℕ) → IsRoot n (wholeRoot n)
 unfolding wholeRoot
 whole-is n =
     rootIn-is (size n) n
-    (lt-of-lt-of-le (size-lt n) (le-trans (pow-mono (le-add-right (size n) (size n))) (le-of-eq (pow-add 2 (size n) (size n) ∙ sym (four-pow (size n))))))
+    (lt-of-lt-of-le (size-lt n) (le-trans (pow-mono (le-add-right (size n) (size n)))
+    (le-of-eq (pow-add 2 (size n) (size n) ∙ sym (four-pow (size n))))))

@@ -5,7 +5,7 @@ ghost use Prim.Native.Nat.{_+_, _*_, _<_, _≤_, _^_};
 ghost use lib.Ieee as Ieee;
 ghost use lib.Ieee.{binary64};
 ghost use Rattle.root.specs.Root.{sqrtOf, normOf};
-ghost use Rattle.root.specs.WholeRoot.{RootRem};
+ghost use Rattle.root.specs.WholeRoot.{RootRem, Extends, extended};
 ghost use Rattle.root.specs.Unit.{unitOf};
 use complex::Complex;
 
@@ -47,7 +47,8 @@ fn short_root(n: u64) -> SqrtRem
     }
 }
 
-// A guess at the root of a number of 27 or 28 digits: a straight line's, and twice the mean of the guess so far and the quotient by it.
+// A guess at the root of a number of 27 or 28 digits: a straight line's, and twice the mean of the guess so far and
+// the quotient by it.
 // Nothing is promised of it but its size: `first_root` tests it.
 fn guess(n: u64) -> u64
     requires { ⌜ n < 2 ^ 28 ⌝ }
@@ -69,7 +70,8 @@ fn lowered(n: u64, s: u64) -> u64
     s
 }
 
-// The same root by a guess, which is tested, and digit by digit where the guess isn't the root: the loop of `short_root` is the slow way.
+// The same root by a guess, which is tested, and digit by digit where the guess isn't the root: the loop of
+// `short_root` is the slow way.
 fn first_root(n: u64) -> SqrtRem
     requires { ⌜ n < 2 ^ 28 ⌝ }
     ensures { λ r. ⌜ RootRem n (r .root) (r .rem) ⌝ }
@@ -89,10 +91,11 @@ fn first_root(n: u64) -> SqrtRem
     short_root(n)
 }
 
-// The root of n * scale^2 + high * scale + low, from that of n, by a division by twice the root: the quotient is at most one too large.
+// The root of n * scale^2 + high * scale + low, from that of n, by a division by twice the root: the quotient is at
+// most one too large.
 fn longer_root(p: SqrtRem, scale: u64, high: u64, low: u64) -> SqrtRem
-    requires { ⌜ (p .rem ≤ 2 * p .root) × (p .root < 2 ^ 27) × (scale ≤ 2 * p .root) × (scale ≤ 2 ^ 27) × (high < scale) × (low < scale) ⌝ }
-    ensures { λ r. ⌜ RootRem ((p .root * p .root + p .rem) * (scale * scale) + (high * scale + low)) (r .root) (r .rem) ⌝ }
+    requires { ⌜ Extends (p .root) (p .rem) scale high low ⌝ }
+    ensures { λ r. ⌜ RootRem (extended (p .root) (p .rem) scale high low) (r .root) (r .rem) ⌝ }
 {
     let num = p.rem * scale + high;
     let den = p.root * 2;
@@ -124,7 +127,8 @@ fn root_digits(m: u64) -> u64
 }
 
 // The pattern of the root, of the pattern of a value that is finite and above zero.
-// The value, times 2^1074 twice, is m * 4^h, with 2^52 <= m < 2^54 after the loop. Its root has 27 + h digits: 54 are worked out, and the last one rounds.
+// The value, times 2^1074 twice, is m * 4^h, with 2^52 <= m < 2^54 after the loop. Its root has 27 + h digits: 54 are
+// worked out, and the last one rounds.
 fn root_bits(b: u64) -> u64
     requires { ⌜ (0 < b) × (b < 0x7ff0_0000_0000_0000) ⌝ }
     ensures { λ r. ⌜ (r < 0x7ff0_0000_0000_0000) × (Ieee.ofBits binary64 r ≡ sqrtOf (Ieee.ofBits binary64 b)) ⌝ }

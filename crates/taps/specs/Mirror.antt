@@ -1,4 +1,4 @@
--- The table of taps is as long as 01 says, and its pulses read alike from both ends (01, "Layouts"). Definitions only.
+-- The length of the table of taps, and that its pulses read alike from both ends (01, "Layouts"). Definitions only.
 use Prim.Native.Nat.{ℕ, _-_, _<_}
 use mathlib.Core.Path.{_≡_}
 use lib.ListN.{length}

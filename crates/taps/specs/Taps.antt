@@ -1,4 +1,4 @@
--- The taps of the three pulses (01, "Layouts"): a table of 227 numbers, printed once from `pulse_taps` of hf/psk.rs. Definitions only.
+-- The taps of the three pulses (01, "Layouts"). Definitions only.
 use Prim.Native.Nat.{ℕ, _+_}
 use mathlib.Core.Bool.{cond}
 use mathlib.Core.List.{List, [], _∷_, map}
@@ -11,7 +11,7 @@ use Rattle.complex.specs.Sums.{fsumTo}
 use Rattle.level.specs.Level.{Pulse, rc, rrc1, rrc2}
 use Rattle.level.specs.Layout.{tapCount}
 
--- each tap by its binary64 pattern
+-- "a constant table of 227 numbers printed once from `pulse_taps`": each by its binary64 pattern
 abbrev pub tapBits : List ℕ
 tapBits =
     -- the raised cosine: 33

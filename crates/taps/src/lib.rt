@@ -1,4 +1,5 @@
-// Constant tables: the pulses' taps, the interpolation's taps, the carriers' phase steps (01, "Layouts" and "Beside the chain").
+// Constant tables: the pulses' taps, the interpolation's taps, the carriers' phase steps (01, "Layouts" and "Beside
+// the chain").
 ghost use mathlib.Core.Path.{_≡_};
 ghost use Prim.Native.Nat.{_≤_, _<_};
 ghost use lib.ListN.{length};
@@ -101,7 +102,8 @@ pub fn phase_step(hz: u64) -> f32
     0.0
 }
 
-// `pulse_taps` of hf/psk.rs for its three pulses, each f64 as rustc 1.95 prints it with {:?}, which reads back as the same number.
+// `pulse_taps` of hf/psk.rs for its three pulses, each f64 as rustc 1.95 prints it with {:?}, which reads back as the
+// same number.
 const TAPS: [f64; 227] = [
     // the raised cosine: 33
     1.2993906445812757e-17,
