@@ -3,7 +3,7 @@ use dimpstea::{rows, Complex, Layout, Sending, Tables};
 use reference::{adaptor, Complex64};
 use std::f64::consts::{PI, TAU};
 
-/// The layouts that the request for speed names.
+/// A layout of each bandwidth.
 pub const THREE: [(u32, u32); 3] = [(500, 4), (2300, 7), (2750, 10)];
 
 pub fn layout((bandwidth, record): (u32, u32)) -> Layout {

@@ -44,30 +44,24 @@ fn sample_place(samples: usize) -> f64 {
     FIRST + 14.0 + (log + 1.0) * (WIDTH - 28.0) / 4.7
 }
 
-/// Where a time stands: by its logarithm, from 0.1 µs to 100,000 µs.
-fn log_height(seconds: f64) -> f64 {
-    let log = (1e6 * seconds).max(0.1).log10();
-    TOP + HEIGHT * (1.0 - (log + 1.0) / 6.0)
-}
-
 fn line(out: &mut String, class: &str, colour: &str, points: impl Iterator<Item = (f64, f64)>) {
     let points: Vec<String> = points.map(|(x, y)| format!("{x:.1},{y:.1}")).collect();
     writeln!(out, r#"<polyline class="{class}" stroke="{colour}" points="{}"/>"#, points.join(" ")).unwrap();
 }
 
 fn by_samples(out: &mut String, all: &[(Layout, Vec<(usize, Cost)>)]) {
-    let heights: Vec<_> = (0..=6).map(|k| 10f64.powi(k - 7)).map(|s| (log_height(s), micros(s))).collect();
+    let logs = || all.iter().flat_map(|(_, costs)| costs).flat_map(|(_, c)| [c.port, c.rust]).map(f64::log10);
+    let (low, high) = (logs().fold(0.0, f64::min).floor(), logs().fold(-9.0, f64::max).ceil());
+    let height = |seconds: f64| TOP + HEIGHT * (high - seconds.log10()) / (high - low);
+    let powers: Vec<f64> = (low as i32..=high as i32).map(|k| 10f64.powi(k)).collect();
+    let heights: Vec<_> = powers.into_iter().map(|s| (height(s), crate::micro(s))).collect();
     let places: Vec<_> = all[0].1.iter().map(|&(n, _)| (sample_place(n), n.to_string())).collect();
     panel(out, FIRST, "µs of a feed by its samples (both axes by logarithm)", &heights, &places);
     for ((_, costs), colour) in all.iter().zip(COLOURS) {
-        line(out, "port", colour, costs.iter().map(|&(n, c)| (sample_place(n), log_height(c.port))));
-        line(out, "rust", colour, costs.iter().map(|&(n, c)| (sample_place(n), log_height(c.rust))));
+        line(out, "port", colour, costs.iter().map(|&(n, c)| (sample_place(n), height(c.port))));
+        line(out, "rust", colour, costs.iter().map(|&(n, c)| (sample_place(n), height(c.rust))));
     }
     text(out, FIRST + WIDTH / 2.0, TOP + HEIGHT + 34.0, "middle", "samples");
-}
-
-fn micros(seconds: f64) -> String {
-    format!("{}", (1e7 * seconds).round() / 10.0)
 }
 
 fn by_carriers(out: &mut String, all: &[(Layout, Cost)]) {
