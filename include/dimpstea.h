@@ -10,8 +10,13 @@
  * A complex number is two doubles, the real part first. Every length below counts elements of the pointer's
  * own type, so that a complex number counts as 2.
  *
- * Stack, refused calls too: read 280,000 bytes, feed 141,000, locate 46,000, carrier_audio 8,000, any other
- * 2,000 (measured on x86-64 Linux). It is touched page by page, so that a guard page below it is met.
+ * The stack that a call needs, accepted or refused, in bytes:
+ *    280,000  read                         2,000  modulate, nco_phase, open
+ *    260,000  feed                         1,000  layout, offer, payload_bits, meter
+ *     46,000  locate
+ *      8,000  carrier_audio
+ * Measured on x86-64 Linux by `bench/run --stack` and rounded up: the most over all layouts of what a call changed
+ * of a painted stack, with its caller's frame. It is touched page by page, so that a guard page below it is met.
  */
 #ifndef DIMPSTEA_H
 #define DIMPSTEA_H
