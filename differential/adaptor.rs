@@ -2,12 +2,13 @@
 //! A child of the receiver's module, since the engine's fields are private to it.
 #![warn(unused)]
 
-use super::super::receiver::BUF_SECONDS;
-use super::{Ctx, FS3, PskEngine};
+use super::{Ctx, PskEngine};
+use crate::constellation::constellation;
 use crate::dat::hf_tables;
+use crate::demap::demapper;
 use crate::dsp::{Hold, Track};
 use crate::hf::level::{Bandwidth, Level, Record, Waveform};
-use crate::hf::psk::{modulate, nco_phase, pulse_taps, stagger};
+use crate::hf::psk::{interp16_taps, modulate, nco_phase, pulse_taps, stagger};
 use crate::keeper::Keeper;
 use num_complex::Complex64;
 use std::mem::{swap, take};
@@ -125,6 +126,23 @@ pub fn phases(layout: Layout, count: usize) -> Vec<Vec<f32>> {
     layout.carriers().iter().map(|&fc| nco_phase(fc, count)).collect()
 }
 
+/// The taps between 3 kHz and 48 kHz.
+pub fn interp_taps() -> [f64; 32] {
+    interp16_taps()
+}
+
+/// The label of the alphabet's point nearest to a step, by the reference's demapper for so many bits.
+pub fn nearest(bps: usize, step: Complex64) -> usize {
+    demapper(constellation(bps as u32)).nearest(step).0
+}
+
+/// The soft bits that the reference's demapper gives for steps.
+pub fn soft_bits(bps: usize, steps: &[Complex64], nvar: f64) -> Vec<f64> {
+    let mut soft = Vec::new();
+    demapper(constellation(bps as u32)).soft_bits(steps, nvar, None, &mut soft);
+    soft
+}
+
 /// The reference's hold.
 pub struct Holder(Hold<()>);
 
@@ -133,10 +151,31 @@ pub fn hold(hold: i64, dead: i64) -> Holder {
 }
 
 impl Holder {
+    /// The same hold with this block, unless it is the first one, and this candidate held.
+    pub fn holding(mut self, block: Option<i64>, held: Option<(i64, f64)>) -> Self {
+        set_hold(&mut self.0, block, held);
+        self
+    }
+
+    /// The block, none for the first one, and the candidate that is held.
+    pub fn holds(&self) -> (Option<i64>, Option<(i64, f64)>) {
+        seen_hold(&self.0)
+    }
+
     /// The position and the metric of a release.
     pub fn offer(&mut self, position: i64, metric: Option<f64>) -> Option<(i64, f64)> {
         self.0.offer(position, metric.map(|m| (m, ()))).map(|(position, metric, ())| (position, metric))
     }
+}
+
+fn set_hold(hold: &mut Hold<()>, block: Option<i64>, held: Option<(i64, f64)>) {
+    hold.block = block.unwrap_or(hold.block);
+    hold.best = held.map(|(position, metric)| (position, metric, ()));
+}
+
+fn seen_hold(hold: &Hold<()>) -> (Option<i64>, Option<(i64, f64)>) {
+    let first = Hold::<()>::new(0, 0).block;
+    ((hold.block != first).then_some(hold.block), hold.best.map(|(position, metric, ())| (position, metric)))
 }
 
 /// A track's base and what it holds from there.
@@ -167,12 +206,40 @@ fn engine(layout: Layout, tables: &Tables) -> PskEngine {
     PskEngine::new(layout.bandwidth, layout.record, &tables.markers, &tables.phasors)
 }
 
+/// A track with document 01's keep.
+fn track(layout: Layout, (base, values): Held) -> Track<Complex64> {
+    let mut track = Track::new(32 * layout.nsym() + 4096);
+    track.base = base;
+    track.buf = values.to_vec();
+    track
+}
+
 pub fn open(layout: Layout, tables: &Tables, start: i64) -> Receiver {
     let mut engine = engine(layout, tables);
     engine.start_at(start);
-    let mut samples = Track::new((BUF_SECONDS * FS3) as usize);
-    samples.restart(start);
-    Receiver { layout, engine, samples }
+    Receiver { layout, engine, samples: track(layout, (start, &[])) }
+}
+
+/// What a receiver has stored: its tracks, where its search goes on, and its hold.
+pub struct Stored<'a> {
+    pub samples: Held<'a>,
+    /// The filtered, step and power tracks of each carrier.
+    pub carriers: Vec<[Held<'a>; 3]>,
+    pub search_place: Option<i64>,
+    pub block: Option<i64>,
+    pub held: Option<(i64, f64)>,
+}
+
+/// A receiver that goes on from what was stored, whether a receiver has stored it or not.
+pub fn resume(layout: Layout, tables: &Tables, stored: &Stored) -> Receiver {
+    let mut engine = engine(layout, tables);
+    for (c, held) in engine.carriers.iter_mut().zip(&stored.carriers) {
+        [c.filtered, c.diff, c.diff_pow] = held.map(|held| track(layout, held));
+    }
+    engine.filter_next = engine.carriers[0].filtered.end();
+    engine.search_next = stored.search_place;
+    set_hold(&mut engine.hold, stored.block, stored.held);
+    Receiver { layout, engine, samples: track(layout, stored.samples) }
 }
 
 impl Receiver {
@@ -226,6 +293,16 @@ impl Receiver {
     /// The number of the sample that comes next.
     pub fn end(&self) -> i64 {
         self.samples.end()
+    }
+
+    /// The samples that are kept.
+    pub fn samples(&self) -> Held<'_> {
+        (self.samples.base, &self.samples.buf)
+    }
+
+    /// The block, none for the first one, and the candidate that is held.
+    pub fn holds(&self) -> (Option<i64>, Option<(i64, f64)>) {
+        seen_hold(&self.engine.hold)
     }
 
     /// Where the search goes on; None before the first position was searched.

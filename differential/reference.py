@@ -198,12 +198,13 @@ EDITS = [
     (
         "records of the receiver",
         "hf/rx/receiver.rs",
-        only("const BUF_SECONDS", "struct Ctx", "struct Detection", "enum Hint", "struct Decoded"),
+        only("struct Ctx", "struct Detection", "enum Hint", "struct Decoded"),
     ),
     ("their names", "hf/rx/receiver.rs", top("use super::*;\nuse crate::{dsp::Track, hf::level::Record};")),
-    # A child module sees the engine's fields without any change of theirs.
+    # A child module sees the engine's fields without any change of theirs; a hold's are another module's.
     ("adaptor", "hf/rx/psk.rs", bottom("pub mod adaptor;")),
-    ("adaptor: the length of the sample track", "hf/rx/receiver.rs", before("const BUF_SECONDS", "pub(super) ")),
+    ("adaptor: a hold's candidate", "dsp.rs", before("best: Option<(i64, f64, X)>", "pub(crate) ")),
+    ("adaptor: a hold's block", "dsp.rs", before("block: i64,", "pub(crate) ")),
 ]
 
 

@@ -5,6 +5,16 @@ use std::process::ExitCode;
 /// The most differences that are shown.
 const SHOWN: u64 = 20;
 
+/// The same bits, or NaNs both: the prover's numbers have one NaN, without a sign.
+pub fn alike(port: f64, reference: f64) -> bool {
+    port.to_bits() == reference.to_bits() || (port.is_nan() && reference.is_nan())
+}
+
+/// As many numbers, each with the other's bits.
+pub fn all_alike(port: &[f64], reference: &[f64]) -> bool {
+    port.len() == reference.len() && port.iter().zip(reference).all(|(&p, &r)| alike(p, r))
+}
+
 #[derive(Default)]
 pub struct Count {
     compared: BTreeMap<&'static str, u64>,
@@ -18,22 +28,29 @@ impl Count {
     pub fn compare(&mut self, what: &'static str, equal: bool, difference: impl FnOnce() -> String) {
         *self.compared.entry(what).or_default() += 1;
         if !equal {
-            self.different += 1;
-            if self.different <= SHOWN {
-                println!("different: {}", difference());
-            }
+            self.differs(difference);
+        }
+    }
+
+    fn differs(&mut self, difference: impl FnOnce() -> String) {
+        self.different += 1;
+        if self.different <= SHOWN {
+            println!("different: {}", difference());
         }
     }
 
     /// Compares two lists of numbers bit by bit.
     pub fn compare_all(&mut self, what: &'static str, port: &[f64], reference: &[f64], place: impl Fn() -> String) {
-        self.compare(what, port.len() == reference.len(), || {
-            format!("{what} of {}: {} numbers, the reference has {}", place(), port.len(), reference.len())
-        });
-        for (i, (p, r)) in port.iter().zip(reference).enumerate() {
-            self.compare(what, p.to_bits() == r.to_bits(), || {
-                format!("{what} of {}, number {i}: {p:e}, the reference has {r:e}", place())
+        if port.len() != reference.len() {
+            return self.compare(what, false, || {
+                format!("{what} of {}: {} numbers, the reference has {}", place(), port.len(), reference.len())
             });
+        }
+        *self.compared.entry(what).or_default() += port.len() as u64;
+        for (i, (&p, &r)) in port.iter().zip(reference).enumerate() {
+            if !alike(p, r) {
+                self.differs(|| format!("{what} of {}, number {i}: {p:e}, the reference has {r:e}", place()));
+            }
         }
     }
 

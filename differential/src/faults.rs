@@ -1,5 +1,8 @@
-//! Calls with one fault or two: the answer must be the model's number, and after a refusal nothing lent may have
-//! changed by a bit.
+//! Calls with no fault, one or two: the answer must be the model's number. After a refusal nothing lent may have changed
+//! by a bit; a call that is accepted, damaged or not, must leave what the reference leaves, or where that can't be asked
+//! what document 01 defines.
+mod audio;
+mod reading;
 mod receiving;
 mod sending;
 mod small;
@@ -8,25 +11,30 @@ use crate::count::Count;
 use crate::inputs;
 use crate::model::{self, first, Rows};
 use crate::random::Random;
-use dimpstea::{flat, Layout, Refusal};
+use dimpstea::{flat, Complex, Layout, Refusal, Tables};
+use reading::Reading;
 use receiving::{Feeding, Offering, Opening};
 use sending::{Modulating, Phasing, Sounding};
-use small::{Choosing, Reading};
+use small::{Choosing, Payloads};
 
 /// Faults are put into calls of each kind, `cases` calls in all.
 pub fn run(cases: usize, random: &Random, count: &mut Count) {
     for case in 0..cases {
         let layout = inputs::layout(random);
-        match case % 9 {
-            0 => check(&mut Choosing::new(&layout), random, count),
-            1 => check(&mut Modulating::new(&layout, random), random, count),
-            2 => check(&mut Phasing::new(&layout, random), random, count),
-            3 => check(&mut Sounding::new(&layout, random), random, count),
-            4 => check(&mut Opening::new(&layout, random), random, count),
-            5 | 6 => check(&mut Feeding::new(&layout, random), random, count),
-            7 => check(&mut Offering::new(random), random, count),
-            _ => check(&mut Reading::new(&layout, random), random, count),
+        match case % 11 {
+            0 => damage(Choosing::new(&layout), random, count),
+            1 => damage(Modulating::new(&layout, random), random, count),
+            2 => damage(Phasing::new(&layout, random), random, count),
+            3 => damage(Sounding::new(&layout, random), random, count),
+            4 => damage(Opening::new(&layout, random), random, count),
+            5 | 6 => damage(Feeding::new(&layout, random), random, count),
+            7 | 8 => damage(Reading::new(&layout, random), random, count),
+            9 => damage(Offering::new(random), random, count),
+            _ => damage(Payloads::new(&layout, random), random, count),
         }
+    }
+    for (bandwidth, record) in Layout::ALL {
+        reading::pairs(&model::layout(bandwidth, record).expect("a PSK layout"), random, count);
     }
 }
 
@@ -36,21 +44,35 @@ trait Call: Clone {
     fn damage(&mut self, random: &Random);
     fn expected(&self) -> u32;
     fn answer(&mut self) -> u32;
-    /// The bits of everything that is lent for writing.
-    fn lent(&self) -> Vec<u64>;
+    /// Whether everything that is lent is as it was, by its bits.
+    fn unchanged(&self, before: &Self) -> bool;
+    /// Compares what the call has left after an acceptance, or after 24.
+    fn compare_left(&self, before: &Self, count: &mut Count);
 }
 
-fn check<C: Call>(call: &mut C, random: &Random, count: &mut Count) {
+fn damage<C: Call>(mut call: C, random: &Random, count: &mut Count) {
     for _ in 0..random.within(0, 2) {
         call.damage(random);
     }
-    let before = call.lent();
+    check(call, count);
+}
+
+/// What an accepted call leaves, in numbers.
+const LEFT: &str = "numbers left by calls with faults";
+
+fn check<C: Call>(mut call: C, count: &mut Count) {
+    let before = call.clone();
     let expected = call.expected();
     let answer = call.answer();
-    count.compare("refusals", answer == expected && (answer == 0 || call.lent() == before), || {
+    let leaves = matches!(expected, 0 | 24);
+    count.compare("refusals", answer == expected && (leaves || call.unchanged(&before)), || {
         format!("refusal: the model says {expected}, the port {answer}, in a {}", std::any::type_name::<C>())
     });
     count.refused(expected);
+    if leaves && answer == expected {
+        count.note("calls with faults that leave something");
+        call.compare_left(&before, count);
+    }
 }
 
 fn number(answer: Result<(), Refusal>) -> u32 {
@@ -61,12 +83,12 @@ fn judge(bandwidth: u32, record: u32, rows: impl FnOnce(&Layout) -> Rows) -> u32
     model::layout(bandwidth, record).map_or_else(|number| number, |layout| first(rows(&layout)))
 }
 
-fn bits(floats: &[f64]) -> impl Iterator<Item = u64> + '_ {
-    floats.iter().map(|x| x.to_bits())
+fn same(now: &[f64], before: &[f64]) -> bool {
+    now.len() == before.len() && now.iter().zip(before).all(|(a, b)| a.to_bits() == b.to_bits())
 }
 
-fn bits32(floats: &[f32]) -> impl Iterator<Item = u64> + '_ {
-    floats.iter().map(|x| u64::from(x.to_bits()))
+fn same32(now: &[f32], before: &[f32]) -> bool {
+    now.len() == before.len() && now.iter().zip(before).all(|(a, b)| a.to_bits() == b.to_bits())
 }
 
 /// Makes a buffer one too short, one too long, empty or twice as long.
@@ -109,6 +131,11 @@ impl Level {
         Self { bandwidth: layout.bandwidth, record: layout.record }
     }
 
+    /// The layout of an accepted call, as document 01's table has it.
+    fn layout(&self) -> Layout {
+        model::layout(self.bandwidth, self.record).expect("a PSK layout")
+    }
+
     fn damage(&mut self, random: &Random) {
         if random.one_in(2) {
             self.bandwidth = random.pick(&[0, 499, 500, 501, 2300, 2301, 2750, u32::MAX]);
@@ -128,7 +155,17 @@ struct Lists {
 impl Lists {
     fn new(layout: &Layout, random: &Random) -> Self {
         let tables = inputs::tables(layout, random);
-        Self { layout: layout.clone(), markers: tables.markers, phasors: flat(&tables.phasors).to_vec() }
+        Self::of(layout, &tables)
+    }
+
+    fn of(layout: &Layout, tables: &Tables) -> Self {
+        Self { layout: layout.clone(), markers: tables.markers.clone(), phasors: flat(&tables.phasors).to_vec() }
+    }
+
+    /// The tables of an accepted call.
+    fn tables(&self) -> Tables {
+        let phasors = self.phasors.chunks(2).map(|z| Complex::new(z[0], z[1])).collect();
+        Tables { markers: self.markers.clone(), phasors }
     }
 
     fn damage(&mut self, random: &Random) {

@@ -1,8 +1,8 @@
 //! Random inputs that every call accepts.
 use crate::random::Random;
 use crate::reference_side;
-use dimpstea::{rows, Complex, Layout, Tables};
-use std::f64::consts::TAU;
+use crate::turns::{self, scaled, times};
+use dimpstea::{Complex, Layout, Tables};
 
 pub fn layout(random: &Random) -> Layout {
     let (bandwidth, record) = random.pick(&Layout::ALL);
@@ -19,12 +19,8 @@ pub fn tables(layout: &Layout, random: &Random) -> Tables {
             values.push(free.swap_remove(random.below(free.len())));
         }
     }
-    let phasors = (0..layout.phasor_count())
-        .map(|_| {
-            let (size, point) = (random.between(0.996, 1.004), Complex::at_angle(random.between(0.0, TAU)));
-            Complex::new(size * point.re, size * point.im)
-        })
-        .collect();
+    let phasors =
+        (0..layout.phasor_count()).map(|_| scaled(turns::point(random), random.between(0.996, 1.004))).collect();
     let mut tables = Tables::new(layout, &values, phasors);
     if random.one_in(3) {
         tables.markers = reference_side::layout(layout).own_markers();
@@ -40,15 +36,34 @@ pub fn draws(layout: &Layout, frames: usize, random: &Random) -> Vec<u8> {
     (0..layout.draw_count(frames)).map(|_| random.below(layout.points()) as u8).collect()
 }
 
-/// The true turn book, or one that is a little too small and turned.
+/// The turn book, or one that is turned and smaller.
 pub fn book(random: &Random) -> Vec<Complex> {
-    let mut book = rows::turn_book();
+    let mut book = turns::book();
     if random.one_in(2) {
-        let (size, turn) = (random.between(0.7, 1.0), Complex::at_angle(random.between(0.0, TAU)));
-        for entry in &mut book {
-            let (re, im) = (entry.re * turn.re - entry.im * turn.im, entry.re * turn.im + entry.im * turn.re);
-            *entry = Complex::new((size * re).clamp(-1.0, 1.0), (size * im).clamp(-1.0, 1.0));
-        }
+        let turn = scaled(turns::point(random), random.between(0.7, 1.0));
+        book.iter_mut().for_each(|entry| *entry = times(*entry, turn));
     }
     book
+}
+
+/// A number of size at most 1: any, or one of the ends and zeros.
+fn part(random: &Random) -> f64 {
+    if random.one_in(4) {
+        random.pick(&[0.0, -0.0, 1.0, -1.0, 5e-324, -1e-200])
+    } else {
+        random.between(-1.0, 1.0)
+    }
+}
+
+/// Drift rows for a reading that finds `t`: of a book's turns that take out so many Hz, or of any numbers.
+pub fn drift(layout: &Layout, t: u64, hz: i64, random: &Random) -> Vec<Complex> {
+    if random.one_in(3) {
+        return (0..layout.drift_len()).map(|_| Complex::new(part(random), part(random))).collect();
+    }
+    let (book, first) = (book(random), t as i64 - layout.delay as i64 - 1);
+    let row = |carrier| {
+        let hz = layout.carrier_hz(carrier) as i64 + hz;
+        (0..layout.drift_row_len() as i64).map(move |i| (hz, first + i))
+    };
+    (0..layout.carriers).flat_map(row).map(|(hz, n)| turns::entry(&book, hz, n)).collect()
 }

@@ -1,16 +1,21 @@
 //! Compares the proved modem with the Rust reference and with the model of refusals, on random inputs.
 mod count;
+mod demapping;
 mod faults;
 mod holds;
 mod inputs;
 mod model;
 mod payloads;
 mod random;
+mod reading;
 mod receiving;
 mod reference_side;
 mod replay;
 mod sending;
+mod sent;
 mod signal;
+mod stored;
+mod turns;
 
 use count::Count;
 use random::Random;
@@ -39,6 +44,7 @@ fn main() -> ExitCode {
     let count = &mut Count::default();
     sending::run(cases, random, count);
     receiving::run(cases, random, count);
+    demapping::run(2 * cases, random, count);
     holds::run(20 * cases, random, count);
     replay::run(count);
     payloads::run(cases, random, count);

@@ -196,6 +196,20 @@ pub fn feed(l: &Layout, book: &[f64], state: &[u64], memory: usize, number: u64,
     ]
 }
 
+/// Rows 22 and 23 of a reading; row 22 of a locating, which takes no drift rows.
+pub fn reading(l: &Layout, state: &[u64], t0: u64, drift: &[f64]) -> Rows {
+    let n: Vec<i128> = state.iter().map(|&n| i128::from(n)).collect();
+    let (sample_base, base, end) = (n[3], n[5], n[5] + n[6]);
+    let (t0, delay) = (i128::from(t0), i128::from(l.delay));
+    let (most, last) = (i128::from(l.max_stagger), 32 * (l.nsym as i128 - 1));
+    let row = most + last + 2 * delay + 2;
+    let wrong_rows = !drift.is_empty() && drift.len() as i128 != 2 * l.carriers as i128 * row;
+    vec![
+        (22, t0 + most + last + 3 > end - 1 || t0 - 35 < base || (!drift.is_empty() && t0 - delay - 4 < sample_base)),
+        (23, wrong_rows || beyond_one(drift)),
+    ]
+}
+
 /// Row 21.
 pub fn offer(hold: &[u64], held_metric: f64, position: u64, metric: Option<f64>) -> Rows {
     let Ok([hold, dead, _, _, holds, held]) = <[u64; raw::HOLD]>::try_from(hold) else { return vec![(21, true)] };

@@ -1,54 +1,98 @@
 //! A 3 kHz signal with frames in it: both sides are fed the same samples.
 use crate::inputs;
 use crate::random::Random;
-use dimpstea::{rows, Complex, Layout, Sending, Tables};
-use std::f64::consts::{PI, TAU};
+use crate::sent::Frame;
+use crate::turns::{self, conj, scaled, times};
+use dimpstea::{Complex, Layout, Sending, Tables};
 
-/// Some sendings with gaps between them, through a channel with noise, fading and a frequency offset.
-pub fn signal(layout: &Layout, tables: &Tables, random: &Random) -> Vec<Complex> {
+pub struct Signal {
+    pub samples: Vec<Complex>,
+    pub frames: Vec<Frame>,
+    /// How much too high the frames are.
+    pub hz: i64,
+}
+
+/// Some sendings with gaps between them, through a channel; or a signal without any.
+pub fn signal(layout: &Layout, tables: &Tables, random: &Random) -> Signal {
+    if random.one_in(12) {
+        return Signal { samples: without_frames(layout, random), frames: Vec::new(), hz: 0 };
+    }
     let mut samples = vec![Complex::ZERO; random.below(3000)];
+    let mut frames = Vec::new();
     for _ in 0..random.within(1, 2) {
-        let frames = random.within(1, 2);
-        let (payload, draws) = (inputs::payload(layout, frames, random), inputs::draws(layout, frames, random));
-        let sending = Sending::new(layout, tables, frames, &payload, &draws).expect("an accepted sending");
-        add(layout, &sending, frames, &mut samples);
+        let count = random.within(1, 2);
+        let (payload, draws) = (inputs::payload(layout, count, random), inputs::draws(layout, count, random));
+        let sending = Sending::new(layout, tables, count, &payload, &draws).expect("an accepted sending");
+        let first = samples.len() + 32 * 8;
+        add(layout, &sending, count, &mut samples);
+        let sent = payload.chunks(layout.payload).zip(draws.chunks(layout.carriers));
+        for (i, (payload, references)) in sent.enumerate() {
+            let rows = (0..layout.carriers).map(|carrier| &sending.row(carrier)[8 + i * layout.nsym..][..layout.nsym]);
+            frames.push(Frame {
+                at: first + 32 * i * layout.nsym,
+                symbols: rows.flatten().copied().collect(),
+                ..Frame::new(layout, tables, payload, references)
+            });
+        }
         let gap = random.within(500, 6000);
         samples.resize(samples.len() + gap, Complex::ZERO);
     }
-    channel(&mut samples, random);
-    samples
+    let hz = random.pick(&[0, random.within(0, 8) as i64 - 4]);
+    channel(&mut samples, hz, random);
+    Signal { samples, frames, hz }
 }
 
-/// Adds a sending after what is there. A symbol's pulse is a raised cosine over its two neighbours.
+/// Silence of zeros of either sign, or one number over and over: each position is as good as the next one.
+fn without_frames(layout: &Layout, random: &Random) -> Vec<Complex> {
+    let len = random.within(13_000, 2 * layout.keep as usize + 6000);
+    let (level, silent) = (turns::point(random), random.one_in(2));
+    (0..len).map(|_| if silent { Complex::new(zero(random), zero(random)) } else { level }).collect()
+}
+
+fn zero(random: &Random) -> f64 {
+    random.pick(&[0.0, -0.0])
+}
+
+/// Adds a sending after what is there. From one symbol to the next a smooth step leads in 32 samples.
 fn add(layout: &Layout, sending: &Sending, frames: usize, samples: &mut Vec<Complex>) {
     let (from, len) = (samples.len(), layout.row_len(frames));
-    let book = rows::turn_book();
-    let pulse: Vec<f64> = (0..32).map(|i| 0.5 + 0.5 * (PI * f64::from(i) / 32.0).cos()).collect();
+    let book = turns::book();
+    let pulse: Vec<f64> = (0..32).map(|i| f64::from(i) / 32.0).map(|x| 1.0 - x * x * (3.0 - 2.0 * x)).collect();
     samples.resize(from + 32 * len + layout.max_stagger as usize, Complex::ZERO);
     for carrier in 0..layout.carriers {
         let (row, stagger) = (sending.row(carrier), layout.stagger(carrier) as usize);
         for i in 0..32 * (len - 1) {
             let (k, late) = (i / 32, pulse[i % 32]);
-            let (a, b) = (row[k], row[k + 1]);
-            let z = Complex::new(a.re * late + b.re * (1.0 - late), a.im * late + b.im * (1.0 - late));
+            let (a, b) = (scaled(row[k], late), scaled(row[k + 1], 1.0 - late));
             let n = from + stagger + i;
-            let turn = book[(layout.carrier_hz(carrier) as usize * n) % 3000];
-            samples[n].re += z.re * turn.re + z.im * turn.im;
-            samples[n].im += z.im * turn.re - z.re * turn.im;
+            let turn = turns::entry(&book, layout.carrier_hz(carrier) as i64, n as i64);
+            let z = times(Complex::new(a.re + b.re, a.im + b.im), conj(turn));
+            samples[n] = Complex::new(samples[n].re + z.re, samples[n].im + z.im);
         }
     }
 }
 
-fn channel(samples: &mut [Complex], random: &Random) {
-    let gain = random.pick(&[1e-6, 0.01, 1.0, 30.0]);
+/// The greatest part that a feed accepts.
+const MOST: f64 = 1_048_576.0;
+
+/// Noise, fading, an offset in frequency, and a hole of zeros.
+fn channel(samples: &mut [Complex], hz: i64, random: &Random) {
+    let gain = random.pick(&[1e-6, 0.01, 1.0, 1.0, 1.0, 30.0, 1e4, 1e12, 1e-30, 1e-80, 1e-162, 1e-321]);
     let noise = random.pick(&[0.0, 1.0, 40.0, 400.0]);
-    let fading = random.pick(&[0.0, 0.5, 0.95]);
-    let (rate, offset) = (random.between(1e-5, 1e-3), random.pick(&[0.0, random.between(-4.0, 4.0)]) / 3000.0);
+    let fading = random.pick(&[0.0, 0.5, 0.95, 1.0]);
+    let (period, step) = (random.between(1e3, 5e4), turns::of_hz(hz as f64));
+    let mut turn = Complex::ONE;
     for (n, sample) in samples.iter_mut().enumerate() {
-        let level = gain * (1.0 - fading * (TAU * rate * n as f64).sin().abs());
-        let turn = Complex::at_angle(TAU * offset * n as f64);
-        let (re, im) = (sample.re * turn.re - sample.im * turn.im, sample.re * turn.im + sample.im * turn.re);
-        *sample =
-            Complex::new(level * re + gain * noise * random.normal(), level * im + gain * noise * random.normal());
+        // From 1 down to 1 - fading and up again.
+        let level = 1.0 - fading * (1.0 - (n as f64 % period / period - 0.5).abs() * 2.0);
+        let z = scaled(times(*sample, turn), level);
+        let part = |sent: f64| (gain * (sent + noise * random.normal())).clamp(-MOST, MOST);
+        *sample = Complex::new(part(z.re), part(z.im));
+        turn = times(turn, step);
+    }
+    if random.one_in(4) {
+        let from = random.below(samples.len());
+        let to = samples.len().min(from + random.within(1, 12_000));
+        samples[from..to].iter_mut().for_each(|sample| *sample = Complex::new(zero(random), zero(random)));
     }
 }

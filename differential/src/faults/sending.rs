@@ -1,8 +1,10 @@
 //! A sending's symbols, phases and audio.
-use super::{bits, bits32, judge, number, part, put, stretch, Call, Level, Lists};
+use super::{audio, judge, number, part, put, same, same32, stretch, Call, Level, Lists, LEFT};
+use crate::count::Count;
 use crate::random::Random;
-use crate::{inputs, model};
+use crate::{inputs, model, reference_side};
 use dimpstea::{flat, raw, rows, Layout, Sending};
+use reference::adaptor;
 
 #[derive(Clone)]
 pub struct Modulating {
@@ -65,8 +67,16 @@ impl Call for Modulating {
         ))
     }
 
-    fn lent(&self) -> Vec<u64> {
-        bits(&self.rows).collect()
+    fn unchanged(&self, before: &Self) -> bool {
+        same(&self.rows, &before.rows)
+    }
+
+    fn compare_left(&self, _: &Self, count: &mut Count) {
+        let layout = self.level.layout();
+        let payload: Vec<Vec<u8>> = self.payload.chunks(layout.payload).map(<[u8]>::to_vec).collect();
+        let tables = reference_side::tables(&layout, &self.lists.tables());
+        let rows = adaptor::symbols(reference_side::layout(&layout), &tables, &payload, &self.draws).concat();
+        count.compare_all(LEFT, &self.rows, &reference_side::parts(&rows), || "symbols".to_string());
     }
 }
 
@@ -125,8 +135,16 @@ impl Call for Phasing {
         number(raw::nco_phase(self.level.bandwidth, self.level.record, self.window, &mut self.phases, &mut self.out))
     }
 
-    fn lent(&self) -> Vec<u64> {
-        bits32(&self.phases).chain(bits32(&self.out)).collect()
+    fn unchanged(&self, before: &Self) -> bool {
+        same32(&self.phases, &before.phases) && same32(&self.out, &before.out)
+    }
+
+    fn compare_left(&self, before: &Self, count: &mut Count) {
+        let rows = audio::phases(&self.level.layout(), &before.phases, self.window);
+        let last: Vec<f32> = rows.iter().map(|row| row[self.window]).collect();
+        let out: Vec<f32> = rows.iter().flat_map(|row| &row[1..]).copied().collect();
+        let equal = same32(&self.phases, &last) && same32(&self.out, &out);
+        count.compare(LEFT, equal, || format!("phases from {:?}, {} places", before.phases, self.window));
     }
 }
 
@@ -218,7 +236,16 @@ impl Call for Sounding {
         ))
     }
 
-    fn lent(&self) -> Vec<u64> {
-        bits32(&self.phases).chain(bits(&self.out)).collect()
+    fn unchanged(&self, before: &Self) -> bool {
+        same32(&self.phases, &before.phases) && same(&self.out, &before.out)
+    }
+
+    fn compare_left(&self, before: &Self, count: &mut Count) {
+        let layout = self.level.layout();
+        let rows = audio::phases(&layout, &before.phases, self.window);
+        let last: Vec<f32> = rows.iter().map(|row| row[self.window]).collect();
+        count.compare(LEFT, same32(&self.phases, &last), || format!("phases from {:?}", before.phases));
+        let out = audio::window(&layout, &self.symbols, self.place as usize, &self.waves, self.window);
+        count.compare_all(LEFT, &self.out, &out, || format!("audio from place {}", self.place));
     }
 }

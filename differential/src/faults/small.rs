@@ -1,5 +1,6 @@
 //! Layouts, payload bits and meters.
-use super::{judge, number, put, stretch, Call, Level};
+use super::{judge, number, put, stretch, Call, Level, LEFT};
+use crate::count::Count;
 use crate::random::Random;
 use crate::{inputs, model};
 use dimpstea::{raw, Layout};
@@ -32,22 +33,33 @@ impl Call for Choosing {
         number(raw::layout(self.level.bandwidth, self.level.record, &mut self.numbers))
     }
 
-    fn lent(&self) -> Vec<u64> {
-        self.numbers.clone()
+    fn unchanged(&self, before: &Self) -> bool {
+        self.numbers == before.numbers
+    }
+
+    fn compare_left(&self, _: &Self, count: &mut Count) {
+        let l = self.level.layout();
+        let counts = [l.carriers, l.spf, l.markers, l.bps, l.nsym, l.payload, l.taps].map(|n| n as u64);
+        let rest = [l.first_hz, l.spacing_hz, l.delay, l.max_stagger, l.keep, l.dead];
+        let expected: Vec<u64> = counts.into_iter().chain(rest).collect();
+        count.compare(LEFT, self.numbers == expected, || {
+            format!("layout {:?}, the model has {expected:?}", self.numbers)
+        });
     }
 }
 
 /// Payload bits from soft bits, or a meter of two payloads.
 #[derive(Clone)]
-pub struct Reading {
+pub struct Payloads {
     level: Level,
     metered: bool,
     soft: Vec<f64>,
     sent: Vec<u8>,
     out: Vec<u8>,
+    differing: u64,
 }
 
-impl Reading {
+impl Payloads {
     pub fn new(layout: &Layout, random: &Random) -> Self {
         Self {
             level: Level::new(layout),
@@ -55,15 +67,17 @@ impl Reading {
             soft: (0..layout.payload).map(|_| random.between(-9.0, 9.0)).collect(),
             sent: inputs::payload(layout, 1, random),
             out: inputs::payload(layout, 1, random),
+            differing: 7,
         }
     }
 }
 
-impl Call for Reading {
+impl Call for Payloads {
     fn damage(&mut self, random: &Random) {
-        match random.below(6) {
+        match random.below(7) {
             0 => self.level.damage(random),
             1 => stretch(&mut self.soft, random),
+            6 => put(&mut self.soft, random.pick(&[0.0, -0.0, 5e-324, -5e-324, f64::NEG_INFINITY]), random),
             2 => stretch(&mut self.sent, random),
             3 => stretch(&mut self.out, random),
             4 => put(&mut self.sent, random.pick(&[2, 255]), random),
@@ -81,12 +95,20 @@ impl Call for Reading {
     fn answer(&mut self) -> u32 {
         let Level { bandwidth, record } = self.level;
         match self.metered {
-            true => number(raw::meter(bandwidth, record, &self.sent, &self.out).map(|_| ())),
+            true => number(raw::meter(bandwidth, record, &self.sent, &self.out).map(|n| self.differing = n)),
             false => number(raw::payload_bits(bandwidth, record, &self.soft, &mut self.out)),
         }
     }
 
-    fn lent(&self) -> Vec<u64> {
-        self.out.iter().map(|&byte| u64::from(byte)).collect()
+    fn unchanged(&self, before: &Self) -> bool {
+        (&self.out, &self.sent, self.differing) == (&before.out, &before.sent, before.differing)
+    }
+
+    fn compare_left(&self, before: &Self, count: &mut Count) {
+        let (out, differing) = match self.metered {
+            true => (before.out.clone(), before.sent.iter().zip(&before.out).filter(|(a, b)| a != b).count() as u64),
+            false => (before.soft.iter().map(|s| u8::from(s.is_sign_negative())).collect(), before.differing),
+        };
+        count.compare(LEFT, (&self.out, self.differing) == (&out, differing), || "payload bits or a meter".to_string());
     }
 }
