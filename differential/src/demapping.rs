@@ -55,37 +55,52 @@ fn chosen(kind: usize, random: &Random) -> Complex {
     }
 }
 
-/// A frame's symbols, carrier by carrier. A marker's step is 1, or j and −j as often, which lets the noise variance
-/// grow and leaves the turn at 1.
+/// A frame's symbols, carrier by carrier: chosen ones at odd symbols whose step, and the next one, are cells'.
 fn symbols(layout: &Layout, tables: &Tables, random: &Random) -> Vec<Complex> {
-    let kind = random.below(5);
-    let (few, noisy) = (random.one_in(3), random.one_in(2));
+    let (kind, few) = (random.below(5), random.one_in(3));
     let mut rows = vec![Complex::ONE; layout.phasor_count()];
-    let mut free = vec![false; layout.phasor_count()];
+    let mut marks = vec![true; layout.phasor_count()];
     for (carrier, symbol) in sent::cells(layout, tables) {
-        free[carrier * layout.nsym + symbol] = true;
+        marks[carrier * layout.nsym + symbol] = false;
     }
-    let mut marks = Vec::new();
-    for i in (0..layout.phasor_count()).filter(|i| i % layout.nsym % 2 == 1) {
-        let last = (i + 1) % layout.nsym == 0;
-        if free[i] && (last || free[i + 1]) && !(few && random.below(40) != 0) {
+    (0..layout.carriers).for_each(|carrier| marks[carrier * layout.nsym] = false);
+    let odd: Vec<usize> = (0..rows.len()).filter(|i| i % layout.nsym % 2 == 1).collect();
+    for &i in odd.iter().filter(|&&i| !marks[i] && marks.get(i + 1) != Some(&true)) {
+        if !few || random.one_in(40) {
             rows[i] = chosen(kind, random);
         }
-        // The next symbol is 1 again, and its step no marker's.
-        if noisy && !free[i] && free[i + 1] {
-            marks.push(i);
-        }
     }
-    // A carrier's last step, which is always a cell's, so large that the mean norm is all its own.
     if random.one_in(4) {
-        let last = random.within(1, layout.carriers) * layout.nsym - 1;
-        rows[last - 1] = Complex::ONE;
-        rows[last] = turns::scaled(turns::point(random), random.pick(&[1e6, 1e60, 1e153]));
+        loud(layout, &mut rows, random);
     }
-    for pair in marks.chunks_exact(2).skip(1) {
-        (rows[pair[0]], rows[pair[1]]) = (Complex::new(0.0, 1.0), Complex::new(0.0, -1.0));
+    match random.below(8) {
+        0 => faint(layout, &marks, &mut rows, random),
+        1..=4 => noisy(odd.into_iter().filter(|&i| marks[i] && !marks[i + 1]), &mut rows),
+        _ => (),
     }
     rows
+}
+
+/// A carrier's last step, which is always a cell's, so large that the mean norm is all its own.
+fn loud(layout: &Layout, rows: &mut [Complex], random: &Random) {
+    let last = random.within(1, layout.carriers) * layout.nsym - 1;
+    rows[last - 1] = Complex::ONE;
+    rows[last] = turns::scaled(turns::point(random), random.pick(&[1e6, 1e60, 1e153]));
+}
+
+/// Markers whose steps are j and −j, as often, and not 1: the noise variance grows, and the turn is 1 as before.
+fn noisy(marks: impl Iterator<Item = usize>, rows: &mut [Complex]) {
+    for pair in marks.collect::<Vec<_>>().chunks_exact(2).skip(1) {
+        (rows[pair[0]], rows[pair[1]]) = (Complex::new(0.0, 1.0), Complex::new(0.0, -1.0));
+    }
+}
+
+/// Markers whose steps aren't 0, but so faint that their norms are.
+fn faint(layout: &Layout, marks: &[bool], rows: &mut [Complex], random: &Random) {
+    for i in (0..rows.len()).filter(|&i| marks[i]) {
+        let odd = i - (1 - i % layout.nsym % 2);
+        rows[odd] = turns::scaled(turns::point(random), 1e-170);
+    }
 }
 
 fn compare(layout: &Layout, random: &Random, count: &mut Count) {

@@ -90,7 +90,9 @@ pub fn compare(asked: &Asked, reference: &mut adaptor::Receiver, frames: &[Frame
         });
     }
     let drift: Vec<Vec<Complex64>> = asked.drift.chunks(layout.drift_row_len()).map(reference_side::numbers).collect();
-    let reading = reference.read(asked.t0 as i64, &drift).expect("a frame in hand");
+    let Some(reading) = reference.read(asked.t0 as i64, &drift) else {
+        return count.compare("readings", false, || format!("reading of {}: the reference has none", place()));
+    };
     let (expected, left) = before.expected(layout, &reading);
     count.compare("readings", number == expected && written.t == left.t, || {
         format!("reading of {}: {number}, t {}; the reference: {expected}, t {}", place(), written.t, left.t)

@@ -62,7 +62,7 @@ impl<'a> List<'a> {
                 count.note("detections");
                 self.read_both(detection.position, random, count);
             }
-            if random.one_in(40) || detection.is_some() {
+            if random.one_in(20) || detection.is_some() {
                 let t0 = self.some_t0(random);
                 self.read_both(t0, random, count);
             }

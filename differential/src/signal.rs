@@ -77,8 +77,11 @@ const MOST: f64 = 1_048_576.0;
 
 /// Noise, fading, an offset in frequency, and a hole of zeros.
 fn channel(samples: &mut [Complex], hz: i64, random: &Random) {
-    let gain = random.pick(&[1e-6, 0.01, 1.0, 1.0, 1.0, 30.0, 1e4, 1e12, 1e-30, 1e-80, 1e-162, 1e-321]);
-    let noise = random.pick(&[0.0, 1.0, 40.0, 400.0]);
+    let gain = match random.one_in(4) {
+        true => random.pick(&[1e4, 1e12, 1e-30, 1e-80, 1e-162, 1e-321]),
+        false => random.pick(&[1e-6, 0.01, 1.0, 30.0]),
+    };
+    let noise = random.pick(&[0.0, 1.0, 40.0, 150.0, 400.0]);
     let fading = random.pick(&[0.0, 0.5, 0.95, 1.0]);
     let (period, step) = (random.between(1e3, 5e4), turns::of_hz(hz as f64));
     let mut turn = Complex::ONE;
