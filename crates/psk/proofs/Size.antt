@@ -21,7 +21,7 @@ use Rattle.complex.specs.declared.Complex.{Complex}
 use Rattle.complex.specs.Arithmetic.{cx, cmul, cconj, cscale, normSqr}
 use Rattle.dat.specs.Tables.{low, high, badPhasor}
 use Rattle.psk.specs.Symbols.{symbolScale, symbolOf}
-use Rattle.psk.specs.Turn.{one, nought, turnOf, Turn}
+use Rattle.psk.proofs.Turn.{one, nought, turnOf, Turn}
 use Rattle.laws.specs.Ranges.{in-range-finite}
 
 -- |x| ≤ a / b

