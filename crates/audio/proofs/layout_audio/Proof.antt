@@ -4,7 +4,7 @@ use mathlib.Core.Path.{sym, ap, _∙_}
 use borrow.Author.Needs.{needs}
 use Rattle.refusal.specs.declared.Fault.{Fault}
 use Rattle.refusal.specs.Outcome.{answered, judged}
-use Rattle.nco.specs.WindowCall.{call-refused, call-done}
+use Rattle.nco.proofs.WindowCallLaws.{call-refused, call-done}
 use Rattle.audio.specs.Audio.{audioWindow, lentWave}
 use Rattle.audio.proofs.Accepted.{sound-of}
 use Rattle.audio.proofs.layout_audio.Statement.{statement}

@@ -1,7 +1,7 @@
 -- `nco::advance` meets its contract: the phases of the carriers passed are those after the window. Assumes nothing.
 use Rattle.complex.specs.Lists.{filled, filled-none}
 use Rattle.nco.specs.Phase.{carrierPhase}
-use Rattle.nco.specs.PhaseLaws.{phase-still, phases-turn, phases-done}
+use Rattle.nco.proofs.PhaseLaws.{phase-still, phases-turn, phases-done}
 use Prim.Native.Nat.{_-_, _≤_}
 use mathlib.Core.Path.{_≡_, refl, _∙_}
 use native.Mathlib.Omega.{arith}

@@ -1,4 +1,4 @@
--- What the phases' loops cite, and that windows join: a window's phases go on from those that the one before handed back.
+-- What the phases' loops cite, and that windows join: a window's phases go on from those that the one before handed back. Assumes nothing.
 use Prim.Native.Nat.{ℕ, zero, suc, _+_, _<_}
 use mathlib.Core.Path.{_≡_, refl, sym, ap, _∙_}
 use mathlib.Core.List.{List}
@@ -8,7 +8,7 @@ use lib.ListN.{length, getD, set}
 use lib.Ieee.{Float, nan}
 use Rattle.complex.specs.Lists.{tabulate, filled, getD-tabulate, tabulate-ext, filled-step, filled-all}
 use Rattle.level.specs.declared.Layout.{Layout}
-use Rattle.nco.specs.Rows.{filled-rest}
+use Rattle.nco.proofs.RowsLaws.{filled-rest}
 use Rattle.nco.specs.Phase.{phaseNext, phaseAfter, carrierStep, carrierPhase, phasesAfter}
 
 pub phase-none : (step phase : Float) → phase ≡ phaseAfter step phase 0

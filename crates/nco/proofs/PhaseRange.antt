@@ -1,4 +1,4 @@
--- A phase from 0 to f32 TAU stays there: what a window hands back meets no condition 14 in the next. Assumes nothing.
+-- A phase from 0 to f32 TAU stays there: `PhasesStay`. Assumes nothing.
 use Prim.Native.Nat.{ℕ, zero, suc, _+_, _-_, _*_, _^_, _<_, _≤_}
 use mathlib.Core.Path.{_≡_, refl, ap, _∙_}
 use mathlib.Core.Bool.{Bool, true, false, not, _&&_, cond}
@@ -28,7 +28,7 @@ use Rattle.level.specs.Lengths.{carrierHz}
 use Rattle.level.specs.Tested.{every, and-left, and-right}
 use Rattle.nco.specs.Phase.{wrapped, phaseNext, phaseAfter, carrierPhase, phasesAfter}
 use Rattle.taps.specs.PhaseSteps.{phaseSteps, stepBits, phaseStep, tau}
-use Rattle.nco.specs.Nco.{zero32, wrongPhases}
+use Rattle.nco.specs.Nco.{zero32, wrongPhases, PhasesStay}
 
 -- at most 1/2, with a clear sign
 small : ℕ → Bool
@@ -68,12 +68,12 @@ unfolding Ieee.ofBits
 tau-den = refl
 
 -- a rounded fraction of at most 2 ^ k
-pub record Rounded (z : Float) (k : ℕ) : Type 0 where
-  pub top : ℕ
-  pub bottom : ℕ
-  pub some : 0 < bottom
-  pub is : z ≡ round binary32 false top bottom
-  pub bound : top ≤ 2 ^ k * bottom
+record Rounded (z : Float) (k : ℕ) : Type 0 where
+  top : ℕ
+  bottom : ℕ
+  some : 0 < bottom
+  is : z ≡ round binary32 false top bottom
+  bound : top ≤ 2 ^ k * bottom
 
 rounded-within : (z : Float) (k : ℕ) → k ≤ 127 → Rounded z k → T (plain z) × Within z k
 rounded-within z k h r =
@@ -173,7 +173,7 @@ wrapped-stays s p w = go (lt tau s) refl
         rw e (in-range (sub binary32 s tau) (r .0) (cross-le (sub binary32 s tau) tau (r .0) tau-plain h))
     go false e = rw e (in-range s p (rw (not-lt-le s tau (plain-number s p) (plain-number tau tau-plain) e) tt))
 
-pub phase-stays : (hz : ℕ) (phase : Float) → T (inRange zero32 tau phase) → T (inRange zero32 tau (phaseNext (phaseStep hz) phase))
+phase-stays : (hz : ℕ) (phase : Float) → T (inRange zero32 tau phase) → T (inRange zero32 tau (phaseNext (phaseStep hz) phase))
 unfolding phaseNext
 phase-stays hz phase h =
     let y = step-small hz in
@@ -185,8 +185,7 @@ unfolding phaseAfter
 after-stays hz phase zero h = h
 after-stays hz phase (suc n) h = phase-stays hz (phaseAfter (phaseStep hz) phase n) (after-stays hz phase n h)
 
--- phases that a call accepts are accepted again after its window
-pub phases-stay : (l : Layout) (window : ℕ) (phases : List Float) → wrongPhases l phases ≡ false → wrongPhases l (phasesAfter l window phases) ≡ false
+pub phases-stay : PhasesStay
 unfolding wrongPhases phasesAfter
 phases-stay l window phases h =
     any-false (λ c. not (inRange zero32 tau (getD (phasesAfter l window phases) c nan))) (l .nc)
