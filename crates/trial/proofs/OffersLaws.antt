@@ -22,8 +22,8 @@ use Rattle.trial.specs.declared.Ran.the-variants.{BadOffers, Rows}
 use Rattle.trial.specs.Trial.{Token, offersIn}
 use Rattle.trial.specs.Scan.{tokenIn, tokensIn}
 use Rattle.trial.specs.Run.{WholeCandidate, Small, Kept, BringsCandidate, rowsOf, Stores, RunsOffers}
-use Rattle.trial.specs.ScanLaws.{drop-two}
-use Rattle.trial.specs.RunLaws.{numberIn-small, numberIn-above, brings-nothing}
+use Rattle.trial.proofs.ScanLaws.{drop-two}
+use Rattle.trial.proofs.RunLaws.{numberIn-small, numberIn-above, brings-nothing}
 
 -- ---- the hold
 pub kept-room : (h : Hold) → Kept h → Room (h .best) (h .dead)

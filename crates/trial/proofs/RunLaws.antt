@@ -20,7 +20,7 @@ use Rattle.hold.specs.declared.Release.the-variants.{NoRelease, Released}
 use Rattle.hold.specs.Releases.{released}
 use Rattle.trial.specs.Trial.{dash, other, numberIn, wholeMetric, candidateIn, offersIn, trialOf}
 use Rattle.trial.specs.Scan.{tokenIn, tokensIn}
-use Rattle.trial.specs.ScanLaws.{tokenIn-small}
+use Rattle.trial.proofs.ScanLaws.{tokenIn-small}
 use Rattle.trial.specs.Run.{trialWith, HeadIs, Whole, BringsCandidate, rowsOf, Stores}
 
 -- ---- numbers

@@ -8,7 +8,7 @@ use lib.Dec.{ltb}
 use borrow.Author.Tests.{le-leb, ne-eqb, ltb-true, ltb-false}
 use Rattle.trial.specs.Numbers.{digit, allDigits, valueAfter, lastDigits, decimal}
 use Rattle.trial.specs.Trial.{number, isDash, token}
-use Rattle.trial.specs.ScanLaws.{numeral, token-numeral, limited-small, digit-bounds}
+use Rattle.trial.proofs.ScanLaws.{numeral, token-numeral, limited-small, digit-bounds}
 
 no-digits : allDigits [] ≡ true
 unfolding allDigits
