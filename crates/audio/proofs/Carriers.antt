@@ -16,8 +16,9 @@ use Rattle.complex.specs.ListLaws.{length-tabulate, tabulate-ext, getD-tabulate
 use Rattle.complex.specs.Pairs.{cget}
 use Rattle.level.specs.declared.Layout.{Layout}
 use Rattle.level.specs.Lengths.{carrierAudioLength}
-use Rattle.nco.specs.Rows.{filled-rest}
-use Rattle.audio.specs.Sums.{sumWhere, where-step}
+use Rattle.nco.proofs.RowsLaws.{filled-rest}
+use Rattle.audio.specs.Sums.{sumWhere}
+use Rattle.audio.proofs.SumsLaws.{where-step}
 use Rattle.audio.specs.Audio.{interpolated, sample, audio, audioWindow, lentWave}
 use Rattle.audio.specs.Parts.{Before, carried}
 

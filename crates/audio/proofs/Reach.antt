@@ -12,7 +12,8 @@ use borrow.Author.Tests.{leb-true, leb-false, ltb-true, ltb-false, lt-leb, le-le
 use Rattle.complex.specs.declared.Complex.{Complex}
 use Rattle.complex.specs.Arithmetic.{czero, cadd, cscale}
 use Rattle.complex.specs.Pairs.{cget}
-use Rattle.audio.specs.Sums.{sumWhere, where-step, where-ext, where-rest, where-same, where-from}
+use Rattle.audio.specs.Sums.{sumWhere}
+use Rattle.audio.proofs.SumsLaws.{where-step, where-ext, where-rest, where-same, where-from}
 use Rattle.audio.specs.Scatter.{isZero, reaches, scatter}
 use Rattle.audio.specs.Parts.{First, Begun, Covered, Among, pulses, pointOf, interpolatedOf}
 

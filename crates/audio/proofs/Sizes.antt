@@ -16,7 +16,7 @@ use Rattle.level.specs.Lengths.{rowLength, audioLength}
 use Rattle.level.specs.Rows.{IsLayout}
 use Rattle.level.specs.SizedLaws.{sized, row-most}
 use Rattle.taps.specs.Taps.{senderTap}
-use Rattle.nco.specs.Rows.{row-within}
+use Rattle.nco.proofs.RowsLaws.{row-within}
 use Rattle.audio.specs.Parts.{First, Covered, Row, Ready}
 use Rattle.audio.proofs.Reach.{first-most}
 

@@ -36,7 +36,8 @@ badPart x = not (finite x) || not (inSize symbolBound x)
 unfoldable pub wrongSymbols : Layout → ℕ → List Float → Bool
 unfolding any badPart
 wrongSymbols l frames symbols =
-    not (eqb (length symbols) (2 * (l .nc * rowLength l frames))) || any (λ k. badPart (getD symbols k nan)) (length symbols)
+    not (eqb (length symbols) (2 * (l .nc * rowLength l frames)))
+    || any (λ k. badPart (getD symbols k nan)) (length symbols)
 
 -- 13: "window above 4,096 or past the end"
 unfoldable pub wrongWindow : Layout → ℕ → ℕ → ℕ → Bool
@@ -50,7 +51,9 @@ waveBound = ofBits binary64 0x3ff0_0000_0000_0000
 unfoldable pub wrongWaves : Layout → ℕ → List Float → List Float → Bool
 unfolding any inSize
 wrongWaves l window waves phases =
-    not (eqb (length waves) (2 * (l .nc * window))) || any (λ k. not (inSize waveBound (getD waves k nan))) (length waves) || wrongPhases l phases
+    not (eqb (length waves) (2 * (l .nc * window)))
+    || any (λ k. not (inSize waveBound (getD waves k nan))) (length waves)
+    || wrongPhases l phases
 
 -- rows 8 and 11 to 14 of "Where each fault is met"
 unfoldable pub audioFault : Layout → ℕ → List Float → ℕ → ℕ → List Float → List Float → List Float → Fault
@@ -65,11 +68,14 @@ audioFault l frames symbols place window waves phases out =
     [])
 
 -- the layout of a call that meets no fault, or its refusal, by what its bandwidth and record choose
-abbrev pub audioAccepted : Outcome Layout → ℕ → List Float → ℕ → ℕ → List Float → List Float → List Float → Outcome Layout
+abbrev pub audioAccepted
+    : Outcome Layout → ℕ → List Float → ℕ → ℕ → List Float → List Float → List Float → Outcome Layout
 audioAccepted chosen frames symbols place window waves phases out =
     andThen chosen (λ l. judged (audioFault l frames symbols place window waves phases out) (answered l))
 
-abbrev pub CarrierAudio : Outcome Layout → ℕ → List Float → ℕ → ℕ → List Float → List Float → List Float → Answer → List Float → List Float → Type 0
+abbrev pub CarrierAudio
+    : Outcome Layout → ℕ → List Float → ℕ → ℕ → List Float → List Float → List Float
+    → Answer → List Float → List Float → Type 0
 CarrierAudio chosen frames symbols place window waves phases out =
     WindowCall (audioAccepted chosen frames symbols place window waves phases out) window phases out
     (λ l. audioWindow l frames symbols (lentWave waves place window) place window)

@@ -51,19 +51,22 @@ pub record Among (parts at count taps j stride : ℕ) : Type 0 where
   pub steps : (i : ℕ) → i < count → stride * i ≤ j
   pub tapped : j < taps
 
--- `count` entries of a row from `at` on, the zero ones left out: the first one's tap is j, each next one's `stride` before
+-- `count` entries of a row from `at` on, the zero ones left out: the first's tap is j, each next one's `stride` before
 unfoldable pub pulses : List Float → ℕ → ℕ → List Float → ℕ → ℕ → Complex
 unfolding sumWhere isZero
 pulses row at count h j stride =
-    sumWhere cadd czero (λ i. not (isZero (cget row (at + i)))) (λ i. cscale (cget row (at + i)) (getD h (j - stride * i) nan)) count
+    sumWhere cadd czero (λ i. not (isZero (cget row (at + i))))
+    (λ i. cscale (cget row (at + i)) (getD h (j - stride * i) nan)) count
 
 -- point m of `count` symbols from symbol `from` on, with the taps h
 abbrev pub pointOf : List Float → ℕ → ℕ → ℕ → List Float → ℕ → Complex
-pointOf symbols from count offset h m = scatter (λ k. cget symbols (from + k)) count 32 offset (length h) (λ i. getD h i nan) m
+pointOf symbols from count offset h m =
+    scatter (λ k. cget symbols (from + k)) count 32 offset (length h) (λ i. getD h i nan) m
 
 -- the value at place t of points that stand in a row from point `first` on
 abbrev pub interpolatedOf : List Float → ℕ → List Float → ℕ → Complex
-interpolatedOf points first h t = scatter (λ k. cget points (k - first)) (t / 16 + 1) 16 0 (length h) (λ i. getD h i nan) t
+interpolatedOf points first h t =
+    scatter (λ k. cget points (k - first)) (t / 16 + 1) 16 0 (length h) (λ i. getD h i nan) t
 
 -- ---- a window
 -- the symbols of a carrier
@@ -74,7 +77,8 @@ pub record Row (l : Layout) (frames : ℕ) (symbols : List Float) (c : ℕ) : Ty
   pub carrier : c < l .nc
 
 -- what the windows' functions are lent, once no fault is met
-pub record Ready (l : Layout) (frames : ℕ) (symbols : List Float) (place window : ℕ) (waves : List Float) : Type 0 where
+pub record Ready (l : Layout) (frames : ℕ) (symbols : List Float) (place window : ℕ) (waves : List Float)
+    : Type 0 where
   pub is-layout : IsLayout l
   pub few : frames ≤ 4
   pub symbols-are : length symbols ≡ 2 * (l .nc * rowLength l frames)
@@ -90,4 +94,5 @@ pub record Taps (l : Layout) (h interp : List Float) : Type 0 where
 -- what the carriers before c come to at place t, with c's sample added unless t is past its own length
 abbrev pub carried : Layout → ℕ → List Float → (ℕ → ℕ → Complex) → ℕ → ℕ → Float → Float
 carried l frames symbols wave c t sum =
-    cond (ltb t (carrierAudioLength l frames c)) (add binary64 sum (sample (interpolated l frames symbols c t) (wave c t))) sum
+    cond (ltb t (carrierAudioLength l frames c))
+    (add binary64 sum (sample (interpolated l frames symbols c t) (wave c t))) sum

@@ -16,8 +16,10 @@ isZero z = Ieee.eq (z .re) fzero && Ieee.eq (z .im) fzero
 unfoldable pub reaches : (stride offset taps m k : ℕ) → Bool
 reaches stride offset taps m k = leb (offset + stride * k) m && ltb m (offset + stride * k + taps)
 
--- point m of n entries x, each times the tap h that its pulse has there: "Zero symbols and zero 3 kHz points are skipped."
+-- point m of n entries x, each times the tap h that its pulse has there: "Zero symbols and zero 3 kHz points are
+-- skipped."
 unfoldable pub scatter : (x : ℕ → Complex) (n stride offset taps : ℕ) (h : ℕ → Float) (m : ℕ) → Complex
 unfolding sumWhere isZero reaches
 scatter x n stride offset taps h m =
-    sumWhere cadd czero (λ k. reaches stride offset taps m k && not (isZero (x k))) (λ k. cscale (x k) (h (m - (offset + stride * k)))) n
+    sumWhere cadd czero (λ k. reaches stride offset taps m k && not (isZero (x k)))
+    (λ k. cscale (x k) (h (m - (offset + stride * k)))) n

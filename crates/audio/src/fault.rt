@@ -10,6 +10,7 @@ ghost use Rattle.level.specs.Rows.{IsLayout};
 ghost use Rattle.audio.specs.CarrierAudio.{badPart, wrongSymbols, wrongWindow, waveBound, wrongWaves, audioFault};
 use level::Layout;
 use refusal::Fault;
+use refusal::Place;
 use refusal::Refusal;
 
 // What is at most 256 in size is finite too.
@@ -43,22 +44,24 @@ fn wrong_symbols(l: Layout, frames: usize, symbols: &[f64]) -> bool
     bad_parts(symbols)
 }
 
-fn wrong_window(l: Layout, frames: usize, place: u64, window: usize) -> bool
+fn wrong_window(l: Layout, frames: usize, place: Place, window: usize) -> bool
     requires { ⌜ IsLayout l × (frames ≤ 4) ⌝ }
-    ensures { λ r. ⌜ r ≡ wrongWindow l frames place window ⌝ }
+    ensures { λ r. ⌜ r ≡ wrongWindow l frames (place .0) window ⌝ }
 {
     if window > 4096 {
         return true;
     }
     let end = level::audio_len(l, frames);
-    if place > end {
+    if place.0 > end.0 {
         return true;
     }
-    place + window as u64 > end
+    place.0 + window as u64 > end.0
 }
 
 fn bad_waves(waves: &[f64]) -> bool
-    ensures { λ r. ⌜ r ≡ any (λ k. not (inSize waveBound (getD (now (waves .entry)) k nan))) (length (now (waves .entry))) ⌝ }
+    ensures { λ r. ⌜
+        r ≡ any (λ k. not (inSize waveBound (getD (now (waves .entry)) k nan))) (length (now (waves .entry)))
+        ⌝ }
 {
     let mut k = 0;
     while k < waves.len() {
@@ -88,14 +91,17 @@ pub fn audio_fault(
     l: Layout,
     frames: u32,
     symbols: &[f64],
-    place: u64,
+    place: Place,
     window: usize,
     waves: &[f64],
     phases: &[f32],
     out: &[f64],
 ) -> Fault
     requires { ⌜ IsLayout l ⌝ }
-    ensures { λ r. ⌜ r ≡ audioFault l frames (now (symbols .entry)) place window (now (waves .entry)) (now (phases .entry)) (now (out .entry)) ⌝ }
+    ensures { λ r. ⌜
+        r ≡ audioFault l frames (now (symbols .entry)) (place .0) window (now (waves .entry)) (now (phases .entry))
+        (now (out .entry))
+        ⌝ }
 {
     if level::wrong_frames(frames as usize) {
         return Fault::Met(Refusal::Frames);

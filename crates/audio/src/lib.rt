@@ -18,27 +18,31 @@ fn layout_audio(
     l: Layout,
     frames: u32,
     symbols: &[f64],
-    place: u64,
+    place: Place,
     window: usize,
     waves: &[f64],
     phases: &mut [f32],
     out: &mut [f64],
 ) -> Answer
     requires { ⌜ IsLayout l ⌝ }
-    ensures { λ r. ⌜ CarrierAudio (answered l) frames (now (symbols .entry)) place window (now (waves .entry)) (now (phases .entry)) (now (out .entry)) r (now (phases .exit)) (now (out .exit)) ⌝ }
+    ensures { λ r. ⌜
+        CarrierAudio (answered l) frames (now (symbols .entry)) (place .0) window (now (waves .entry))
+        (now (phases .entry)) (now (out .entry)) r (now (phases .exit)) (now (out .exit))
+        ⌝ }
 {
     let fault = fault::audio_fault(l, frames, symbols, place, window, waves, phases, out);
     match fault {
         Fault::Met(r) => Answer::Refused(r),
         Fault::Clear => {
-            window::audio_window(l, frames as usize, symbols, place as usize, waves, out);
+            window::audio_window(l, frames as usize, symbols, place, waves, out);
             nco::advance(l, window, phases);
             Answer::Done
         }
     }
 }
 
-// The audio of a window of places, from the sender's symbols and the carriers' waves there; the phases become those after it.
+// The audio of a window of places, from the sender's symbols and the carriers' waves there. The phases become those
+// after it.
 pub fn carrier_audio(
     bandwidth: u32,
     rec: u32,
@@ -50,11 +54,14 @@ pub fn carrier_audio(
     phases: &mut [f32],
     out: &mut [f64],
 ) -> Answer
-    ensures { λ r. ⌜ CarrierAudio (chosen bandwidth rec) frames (now (symbols .entry)) (place .0) window (now (waves .entry)) (now (phases .entry)) (now (out .entry)) r (now (phases .exit)) (now (out .exit)) ⌝ }
+    ensures { λ r. ⌜
+        CarrierAudio (chosen bandwidth rec) frames (now (symbols .entry)) (place .0) window (now (waves .entry))
+        (now (phases .entry)) (now (out .entry)) r (now (phases .exit)) (now (out .exit))
+        ⌝ }
 {
     let chosen = level::choose(bandwidth, rec);
     match chosen {
         Chosen::Refused(r) => Answer::Refused(r),
-        Chosen::Psk(l) => layout_audio(l, frames, symbols, place.0, window, waves, phases, out),
+        Chosen::Psk(l) => layout_audio(l, frames, symbols, place, window, waves, phases, out),
     }
 }

@@ -104,8 +104,14 @@ pub fn points(
     n: usize,
     y: &mut [f64],
 )
-    requires { ⌜ (2 * (from + count) ≤ length (now symbols)) × (32 ≤ length (now h)) × (first + n < 2 ^ 40) × (2 * n ≤ length (now y)) ⌝ }
-    ensures { λ _. ⌜ now (y .exit) ≡ cfilled (λ k. pointOf (now (symbols .entry)) from count offset (now (h .entry)) (first + k)) n (now (y .entry)) ⌝ }
+    requires { ⌜
+        (2 * (from + count) ≤ length (now symbols)) × (32 ≤ length (now h)) × (first + n < 2 ^ 40)
+        × (2 * n ≤ length (now y))
+        ⌝ }
+    ensures { λ _. ⌜
+        now (y .exit) ≡ cfilled (λ k. pointOf (now (symbols .entry)) from count offset (now (h .entry)) (first + k)) n
+        (now (y .entry))
+        ⌝ }
 {
     let mut k = 0;
     while k < n {
@@ -135,8 +141,15 @@ pub fn add_samples(
     n: usize,
     out: &mut [f64],
 )
-    requires { ⌜ ((i : ℕ) → i < n → Covered (length (now y)) first (length (now h)) (place + i)) × (2 * (from + n) ≤ length (now waves)) × (n ≤ length (now out)) × (place < 2 ^ 40) ⌝ }
-    ensures { λ _. ⌜ now (out .exit) ≡ filled (λ i. add binary64 (getD (now (out .entry)) i nan) (sample (interpolatedOf (now (y .entry)) first (now (h .entry)) (place + i)) (cget (now (waves .entry)) (from + i)))) n (now (out .entry)) ⌝ }
+    requires { ⌜
+        ((i : ℕ) → i < n → Covered (length (now y)) first (length (now h)) (place + i))
+        × (2 * (from + n) ≤ length (now waves)) × (n ≤ length (now out)) × (place < 2 ^ 40)
+        ⌝ }
+    ensures { λ _. ⌜
+        now (out .exit) ≡ filled (λ i. add binary64 (getD (now (out .entry)) i nan)
+        (sample (interpolatedOf (now (y .entry)) first (now (h .entry)) (place + i))
+        (cget (now (waves .entry)) (from + i)))) n (now (out .entry))
+        ⌝ }
 {
     let mut i = 0;
     while i < n {

@@ -15,6 +15,7 @@ use super::scatter::add_samples;
 use super::scatter::first_reaching;
 use super::scatter::points;
 use level::Layout;
+use refusal::Place;
 
 // How many places of the window are before the end.
 fn places_before(end: usize, place: usize, window: usize) -> usize
@@ -40,8 +41,13 @@ fn carrier_points(
     n: usize,
     y: &mut [f64],
 )
-    requires { ⌜ Row l frames (now symbols) c × (now h ≡ tabulate (senderTap (pulseOf (l .taps))) (l .taps)) × (first + n < 2 ^ 40) × (2 * n ≤ length (now y)) ⌝ }
-    ensures { λ _. ⌜ now (y .exit) ≡ cfilled (λ k. point l frames (now (symbols .entry)) c (first + k)) n (now (y .entry)) ⌝ }
+    requires { ⌜
+        Row l frames (now symbols) c × (now h ≡ tabulate (senderTap (pulseOf (l .taps))) (l .taps))
+        × (first + n < 2 ^ 40) × (2 * n ≤ length (now y))
+        ⌝ }
+    ensures { λ _. ⌜
+        now (y .exit) ≡ cfilled (λ k. point l frames (now (symbols .entry)) c (first + k)) n (now (y .entry))
+        ⌝ }
 {
     let len = level::row_len(l, frames);
     let offset = level::stagger(l.nc, c) as usize;
@@ -54,20 +60,28 @@ fn add_through(
     frames: usize,
     c: usize,
     symbols: &[f64],
-    place: usize,
+    place: Place,
     waves: &[f64],
     h: &[f64],
     interp: &[f64],
     y: &mut [f64],
     out: &mut [f64],
 )
-    requires { ⌜ Ready l frames (now symbols) place (length (now out)) (now waves) × Taps l (now h) (now interp) × (c < l .nc) × (length (now y) ≡ 520) ⌝ }
-    ensures { λ _. ⌜ now (out .exit) ≡ tabulate (λ i. carried l frames (now (symbols .entry)) (lentWave (now (waves .entry)) place (length (now (out .entry)))) c (place + i) (getD (now (out .entry)) i nan)) (length (now (out .entry))) ⌝ }
+    requires { ⌜
+        Ready l frames (now symbols) (place .0) (length (now out)) (now waves) × Taps l (now h) (now interp)
+        × (c < l .nc) × (length (now y) ≡ 520)
+        ⌝ }
+    ensures { λ _. ⌜
+        now (out .exit) ≡ tabulate (λ i. carried l frames (now (symbols .entry))
+        (lentWave (now (waves .entry)) (place .0) (length (now (out .entry)))) c (place .0 + i)
+        (getD (now (out .entry)) i nan)) (length (now (out .entry)))
+        ⌝ }
 {
+    let at = place.0 as usize;
     let window = out.len();
-    let own = level::carrier_audio_len(l, frames, c) as usize;
-    let n = places_before(own, place, window);
-    let first = first_reaching(place, 32, 16);
+    let own = level::carrier_audio_len(l, frames, c);
+    let n = places_before(own.0 as usize, at, window);
+    let first = first_reaching(at, 32, 16);
     carrier_points(
         l,
         frames,
@@ -75,10 +89,10 @@ fn add_through(
         symbols,
         h,
         first,
-        (place + n) / 16 + 1 - first,
+        (at + n) / 16 + 1 - first,
         y,
     );
-    add_samples(y, first, interp, place, waves, c * window, n, out)
+    add_samples(y, first, interp, at, waves, c * window, n, out)
 }
 
 // Adds carrier c's samples to the window.
@@ -87,14 +101,21 @@ fn add_carrier(
     frames: usize,
     c: usize,
     symbols: &[f64],
-    place: usize,
+    place: Place,
     waves: &[f64],
     h: &[f64],
     interp: &[f64],
     out: &mut [f64],
 )
-    requires { ⌜ Ready l frames (now symbols) place (length (now out)) (now waves) × Taps l (now h) (now interp) × (c < l .nc) ⌝ }
-    ensures { λ _. ⌜ now (out .exit) ≡ tabulate (λ i. carried l frames (now (symbols .entry)) (lentWave (now (waves .entry)) place (length (now (out .entry)))) c (place + i) (getD (now (out .entry)) i nan)) (length (now (out .entry))) ⌝ }
+    requires { ⌜
+        Ready l frames (now symbols) (place .0) (length (now out)) (now waves) × Taps l (now h) (now interp)
+        × (c < l .nc)
+        ⌝ }
+    ensures { λ _. ⌜
+        now (out .exit) ≡ tabulate (λ i. carried l frames (now (symbols .entry))
+        (lentWave (now (waves .entry)) (place .0) (length (now (out .entry)))) c (place .0 + i)
+        (getD (now (out .entry)) i nan)) (length (now (out .entry)))
+        ⌝ }
 {
     let mut y = [0.0; 520];
     add_through(l, frames, c, symbols, place, waves, h, interp, &mut y, out)
@@ -105,14 +126,20 @@ fn add_carriers(
     l: Layout,
     frames: usize,
     symbols: &[f64],
-    place: usize,
+    place: Place,
     waves: &[f64],
     h: &[f64],
     interp: &[f64],
     out: &mut [f64],
 )
-    requires { ⌜ Ready l frames (now symbols) place (length (now out)) (now waves) × Taps l (now h) (now interp) × (now out ≡ tabulate (λ i. fzero) (length (now out))) ⌝ }
-    ensures { λ _. ⌜ now (out .exit) ≡ audioWindow l frames (now (symbols .entry)) (lentWave (now (waves .entry)) place (length (now (out .entry)))) place (length (now (out .entry))) ⌝ }
+    requires { ⌜
+        Ready l frames (now symbols) (place .0) (length (now out)) (now waves) × Taps l (now h) (now interp)
+        × (now out ≡ tabulate (λ i. fzero) (length (now out)))
+        ⌝ }
+    ensures { λ _. ⌜
+        now (out .exit) ≡ audioWindow l frames (now (symbols .entry))
+        (lentWave (now (waves .entry)) (place .0) (length (now (out .entry)))) (place .0) (length (now (out .entry)))
+        ⌝ }
 {
     let mut c = 0;
     while c < l.nc {
@@ -148,14 +175,20 @@ fn audio_through(
     l: Layout,
     frames: usize,
     symbols: &[f64],
-    place: usize,
+    place: Place,
     waves: &[f64],
     h: &mut [f64],
     interp: &mut [f64],
     out: &mut [f64],
 )
-    requires { ⌜ Ready l frames (now symbols) place (length (now out)) (now waves) × (length (now h) ≡ l .taps) × (length (now interp) ≡ 32) ⌝ }
-    ensures { λ _. ⌜ now (out .exit) ≡ audioWindow l frames (now (symbols .entry)) (lentWave (now (waves .entry)) place (length (now (out .entry)))) place (length (now (out .entry))) ⌝ }
+    requires { ⌜
+        Ready l frames (now symbols) (place .0) (length (now out)) (now waves) × (length (now h) ≡ l .taps)
+        × (length (now interp) ≡ 32)
+        ⌝ }
+    ensures { λ _. ⌜
+        now (out .exit) ≡ audioWindow l frames (now (symbols .entry))
+        (lentWave (now (waves .entry)) (place .0) (length (now (out .entry)))) (place .0) (length (now (out .entry)))
+        ⌝ }
 {
     taps::sender_taps(l, h);
     interp_taps(interp);
@@ -168,12 +201,15 @@ pub fn audio_window(
     l: Layout,
     frames: usize,
     symbols: &[f64],
-    place: usize,
+    place: Place,
     waves: &[f64],
     out: &mut [f64],
 )
-    requires { ⌜ Ready l frames (now symbols) place (length (now out)) (now waves) ⌝ }
-    ensures { λ _. ⌜ now (out .exit) ≡ audioWindow l frames (now (symbols .entry)) (lentWave (now (waves .entry)) place (length (now (out .entry)))) place (length (now (out .entry))) ⌝ }
+    requires { ⌜ Ready l frames (now symbols) (place .0) (length (now out)) (now waves) ⌝ }
+    ensures { λ _. ⌜
+        now (out .exit) ≡ audioWindow l frames (now (symbols .entry))
+        (lentWave (now (waves .entry)) (place .0) (length (now (out .entry)))) (place .0) (length (now (out .entry)))
+        ⌝ }
 {
     let count = l.taps;
     let mut h = [0.0; 129];

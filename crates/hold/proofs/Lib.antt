@@ -1,1 +1,3 @@
+pub mod LoneOfferLaws
+pub mod HistoryRule
 pub mod LoneHistory

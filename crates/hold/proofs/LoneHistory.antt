@@ -23,9 +23,9 @@ use Rattle.hold.specs.Offer.{offered, freshHold}
 use Rattle.hold.specs.OfferLaws.{OfHeld, OfCandidate, offered-keeps}
 use Rattle.hold.specs.History.{Offer, Each, Number}
 use Rattle.hold.specs.Releases.{released, holdAfter, releases}
-use Rattle.hold.specs.HistoryRule.{history-rule}
 use Rattle.hold.specs.LoneOffer.{outside, badHeld, badCandidate, badOffer, loneFault, outcome, unlessMet}
 use Rattle.hold.specs.LoneCalls.{LoneCalls, none, next, releasedBy, loneAnswers, badGiven, loneVerdict, acceptedOffers, LoneHistories}
+use Rattle.hold.proofs.HistoryRule.{history-rule}
 
 never {ℓ} : {A : Type 0} {X : Type ℓ} {k : ℕ} {a : A} → refused k ≡ answered a → X
 never e = absurd (let z : _≡_ {A = ℕ} 0 1 = cc in omega arith)

@@ -1,4 +1,4 @@
--- The case of 01 marked (P) that is the hold's: "hold 8: offer at 20 releases no 12, offer at 22 does". Computed; assumes nothing.
+-- The case marked (P) of the hold: "hold 8: offer at 20 releases no 12, offer at 22 does". Computed; assumes nothing.
 use mathlib.Core.Path.{_≡_, refl}
 use Prim.Native.Nat.{ℕ}
 use lib.Ieee.{Float}

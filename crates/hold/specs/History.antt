@@ -40,7 +40,7 @@ Below block m o = (n : Float) → Eligible block n o → lt n m ≡ true
 abbrev pub NotAbove : Block → Float → Offer → Type 0
 NotAbove block m o = (n : Float) → Eligible block n o → lt m n ≡ false
 
--- "the earliest of greatest metric among candidates offered .. at positions not below the block"
+-- "the earliest of greatest metric among candidates offered", of those "at positions not below the block"
 pub record Greatest (block : Block) (os : List Offer) (d : Detection) : Type 0 where
   pub before : List Offer
   pub after : List Offer
@@ -52,13 +52,16 @@ pub record Greatest (block : Block) (os : List Offer) (d : Detection) : Type 0 w
 -- none of the offers releases: each is at most `hold` past the greatest candidate before it
 abbrev pub Quiet : ℕ → Block → List Offer → Type 0
 Quiet hold block os =
-    (before after : List Offer) (o : Offer) (d : Detection) → os ≡ before ++ (o ∷ after) → Greatest block before d → o .position .0 ≤ d .position .0 + hold
+    (before after : List Offer) (o : Offer) (d : Detection) → os ≡ before ++ (o ∷ after)
+    → Greatest block before d → o .position .0 ≤ d .position .0 + hold
 
--- The releases of a list of offers, where nothing is held. The offers `since` stand strictly between release offers. The release comes at the first
--- offer o more than `hold` past the greatest candidate d, and sets the block to d + dead. The candidate of o is in no later list, so it is dropped.
+-- The releases of a list of offers, where nothing is held. The offers `since` stand "strictly between release offers".
+-- The release comes at the first offer o more than `hold` past the greatest candidate d, and "sets the block to b + dead",
+-- where b is d's position. The candidate of o is in no later list: "p's own candidate is then dropped".
 pub data History (hold dead : ℕ) : Block → List Offer → List Detection → Type 0 where
   none-due : {block : Block} {os : List Offer} → Quiet hold block os → History hold dead block os []
-  release-at : {block : Block} {os : List Offer} {d : Detection} {ds : List Detection} (since : List Offer) (o : Offer) (rest : List Offer)
+  release-at : {block : Block} {os : List Offer} {d : Detection} {ds : List Detection}
+      (since : List Offer) (o : Offer) (rest : List Offer)
       → os ≡ since ++ (o ∷ rest)
       → Quiet hold block since
       → Greatest block since d

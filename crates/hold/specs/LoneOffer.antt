@@ -1,13 +1,10 @@
--- A lone offer (01, "Where each fault is met", condition 21): its answer, and the hold after it. Definitions, and what no fault says.
-use mathlib.Core.Path.{_≡_, refl, sym}
-use mathlib.Core.Bool.{Bool, true, false, not, _||_}
+-- A lone offer (01, "Where each fault is met", condition 21): its answer, and the hold after it. Definitions only.
+use mathlib.Core.Path.{_≡_}
+use mathlib.Core.Bool.{Bool, false, not, _||_}
 use mathlib.Core.List.{[], _∷_}
 use Prim.Native.Nat.{ℕ, _^_}
-use native.Mathlib.Omega.{arith}
 use lib.Dec.{ltb}
 use lib.Ieee.Scale.{finite}
-use borrow.Author.Tests.{ltb-false}
-use Rattle.laws.specs.Order.{clash}
 use Rattle.refusal.specs.declared.Position.{Position}
 use Rattle.refusal.specs.declared.Fault.{Fault}
 use Rattle.refusal.specs.declared.Fault.the-variants.{Clear, Met}
@@ -20,10 +17,9 @@ use Rattle.hold.specs.declared.Candidate.{Candidate}
 use Rattle.hold.specs.declared.Candidate.the-variants.{NoCandidate, Metric}
 use Rattle.hold.specs.declared.Release.{Release}
 use Rattle.hold.specs.declared.Hold.{Hold}
-use Rattle.hold.specs.declared.Offered.{Offered}
 use Rattle.hold.specs.declared.LoneAnswer.{LoneAnswer}
 use Rattle.hold.specs.declared.LoneAnswer.the-variants.{Refused, Answered}
-use Rattle.hold.specs.Offer.{offered, Room}
+use Rattle.hold.specs.Offer.{offered}
 
 -- "outside 0 to 2^48"
 abbrev pub outside : ℕ → Bool
@@ -60,34 +56,3 @@ unlessMet (Met r) next h = h
 pub record LoneOffers (h : Hold) (p : Position) (c : Candidate) (answer : LoneAnswer) (next : Hold) : Type 0 where
   pub answers : outcome answer ≡ judged (loneFault h p c) (answered (offered h p c .release))
   pub leaves : next ≡ unlessMet (loneFault h p c) (offered h p c .next) h
-
-or-left : (a b : Bool) → a || b ≡ false → a ≡ false
-or-left true b e = e
-or-left false b e = refl
-
-or-right : (a b : Bool) → a || b ≡ false → b ≡ false
-or-right true b e = clash (sym e)
-or-right false b e = e
-
-room : (best : Held) (dead : ℕ) → outside dead ≡ false → badHeld best ≡ false → Room best dead
-unfolding badHeld
-room Empty dead d e = tt
-room (At b m) dead d e =
-    omega (arith, ltb-false (2 ^ 48) dead d, ltb-false (2 ^ 48) (b .0) (or-left (outside (b .0)) (not (finite m)) e))
-
-module _ (h : Hold) (p : Position) (c : Candidate) where
-  -- an offer that meets no 21 is one that `offer` takes
-  pub lone-room : badOffer h p c ≡ false → Room (h .best) (h .dead)
-  unfolding badOffer
-  lone-room e =
-      let e₁ : (outside (h .dead) || (outside (p .0) || (badHeld (h .best) || badCandidate c))) ≡ false = or-right (outside (h .hold)) _ e in
-      let e₂ : (outside (p .0) || (badHeld (h .best) || badCandidate c)) ≡ false = or-right (outside (h .dead)) _ e₁ in
-      room (h .best) (h .dead) (or-left (outside (h .dead)) _ e₁) (or-left (badHeld (h .best)) _ (or-right (outside (p .0)) _ e₂))
-
-  pub lone-refused : badOffer h p c ≡ true → LoneOffers h p c (Refused Offer) h
-  unfolding loneFault outcome unlessMet
-  lone-refused e = record { answers = rw e; leaves = rw e }
-
-  pub lone-answered : (o : Offered) → badOffer h p c ≡ false → o ≡ offered h p c → LoneOffers h p c (Answered (o .release)) (o .next)
-  unfolding loneFault outcome unlessMet
-  lone-answered o e k = record { answers = rw (e, k); leaves = rw (e, k) }

@@ -34,7 +34,8 @@ unfoldable pub greater : Float → Held → Bool
 greater m Empty = true
 greater m (At b n) = lt n m
 
--- what is held after an offer that releases nothing: "a candidate is taken when p is at least the block and nothing is held or its metric is greater"
+-- what is held after an offer that releases nothing: "a candidate is taken when p is at least the block and nothing is
+-- held or its metric is greater"
 unfoldable pub taken : Block → Held → Position → Candidate → Held
 taken block best p NoCandidate = best
 taken block best p (Metric m) = cond (atLeast p block && greater m best) (At p m) best
@@ -47,7 +48,8 @@ keeping h p c =
       release = NoRelease;
     }
 
--- the offer that releases what is held at b: "A release sets the block to b + dead", and the offer's own candidate is dropped
+-- the offer that releases what is held at b: "A release sets the block to b + dead", and "p's own candidate is then
+-- dropped"
 unfoldable pub releasing : Hold → Position → Float → Offered
 releasing h b m =
     record {

@@ -1,4 +1,5 @@
-// The hold of the search (dsp.rs, `Hold`): it keeps the best candidate until an offer comes more than `hold` positions after it.
+// The hold of the search (dsp.rs, `Hold`): it keeps the best candidate until an offer comes more than `hold` positions
+// after it.
 ghost use mathlib.Core.Path.{_≡_};
 ghost use Rattle.hold.specs.Offer.{atLeast, due, taken, keeping, offered, freshHold, Room};
 ghost use Rattle.hold.specs.LoneOffer.{outside, badHeld, badCandidate, badOffer, LoneOffers};

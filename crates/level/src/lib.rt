@@ -8,6 +8,7 @@ ghost use Rattle.level.specs.Lengths.{memoryLength};
 ghost use Rattle.level.specs.Rows.{IsLayout};
 ghost use Rattle.level.specs.Frames.{wrongFrames};
 ghost use Rattle.level.specs.Kept.{share, keptCells};
+use refusal::Place;
 use refusal::Refusal;
 
 // A layout's numbers: all that 01 derives from its row, and the carriers as a first one and a spacing.
@@ -169,18 +170,18 @@ fn audio_of(l: Layout, frames: usize, s: u64) -> u64
     16 * (32 * row_len(l, frames) as u64 + s + l.taps as u64 - 1) + 31
 }
 
-pub fn audio_len(l: Layout, frames: usize) -> u64
+pub fn audio_len(l: Layout, frames: usize) -> Place
     requires { ⌜ IsLayout l × (frames ≤ 4) ⌝ }
-    ensures { λ r. ⌜ r ≡ audioLength l frames ⌝ }
+    ensures { λ r. ⌜ r .0 ≡ audioLength l frames ⌝ }
 {
-    audio_of(l, frames, l.max_stagger)
+    Place(audio_of(l, frames, l.max_stagger))
 }
 
-pub fn carrier_audio_len(l: Layout, frames: usize, c: usize) -> u64
+pub fn carrier_audio_len(l: Layout, frames: usize, c: usize) -> Place
     requires { ⌜ IsLayout l × (frames ≤ 4) × (c < l .nc) ⌝ }
-    ensures { λ r. ⌜ r ≡ carrierAudioLength l frames c ⌝ }
+    ensures { λ r. ⌜ r .0 ≡ carrierAudioLength l frames c ⌝ }
 {
-    audio_of(l, frames, stagger(l.nc, c))
+    Place(audio_of(l, frames, stagger(l.nc, c)))
 }
 
 // The complex numbers of a receiver's memory.

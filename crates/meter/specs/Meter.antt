@@ -13,12 +13,12 @@ use Rattle.level.specs.declared.Layout.{Layout}
 use Rattle.meter.specs.declared.Metered.{Metered}
 use Rattle.meter.specs.declared.Metered.the-variants.{Differing, Refused}
 
--- "payload length not .. n, or a byte above 1"
+-- 9: "payload length not frames × n (meter: n), or a byte above 1"
 unfoldable pub wrongBits : ℕ → List ℕ → Bool
 unfolding any
 wrongBits n payload = not (eqb (length payload) n) || any (λ i. ltb 1 (getD payload i 0)) n
 
--- 9, of either payload
+-- 9 is met by either payload
 unfoldable pub meterFault : Layout → List ℕ → List ℕ → Fault
 unfolding wrongBits
 meterFault l sent read = firstFault ((Payload, wrongBits (l .n) sent || wrongBits (l .n) read) ∷ [])
@@ -40,7 +40,8 @@ differing sent read n = count (differs sent read) n
 -- what the meter answers, by what bandwidth and record choose
 unfoldable pub metered : Outcome Layout → List ℕ → List ℕ → Outcome ℕ
 unfolding meterFault differing
-metered chosen sent read = andThen chosen (λ l. judged (meterFault l sent read) (answered (differing sent read (l .n))))
+metered chosen sent read =
+    andThen chosen (λ l. judged (meterFault l sent read) (answered (differing sent read (l .n))))
 
 -- the code's answer in 01's terms
 abbrev pub outcome : Metered → Outcome ℕ

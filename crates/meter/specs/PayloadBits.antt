@@ -1,12 +1,11 @@
--- The payload that soft bits read as: "A read bit is 1 when the soft bit's sign bit is set" (01, "Reading"), and condition 11.
+-- The payload that soft bits read as (01, "Reading"), and condition 11. Definitions only.
 use Prim.Native.Nat.{ℕ}
-use mathlib.Core.Path.{_≡_, refl}
+use mathlib.Core.Path.{_≡_}
 use mathlib.Core.Bool.{not, _||_}
 use mathlib.Core.List.{List, [], _∷_}
 use lib.Dec.{eqb}
 use lib.ListN.{length, getD}
 use lib.Ieee.{Float, nan}
-use Rattle.refusal.specs.declared.Refusal.{Refusal}
 use Rattle.refusal.specs.declared.Refusal.the-variants.{Buffer}
 use Rattle.refusal.specs.declared.Fault.{Fault}
 use Rattle.refusal.specs.Refusal.{numberOf}
@@ -17,12 +16,12 @@ use Rattle.level.specs.declared.Layout.{Layout}
 use Rattle.meter.specs.declared.Answer.{Answer}
 use Rattle.meter.specs.declared.Answer.the-variants.{Done, Refused}
 
--- the bits that n soft bits read as
+-- "A read bit is 1 when the soft bit's sign bit is set.": the bits that n soft bits read as
 unfoldable pub readBits : List Float → ℕ → List ℕ
 unfolding tabulate signBit
 readBits soft n = tabulate (λ i. signBit (getD soft i nan)) n
 
--- 11: "an out or scratch buffer of wrong length": the soft bits are a reading's out buffer, and the bits are one for each
+-- 11: "an out or scratch buffer of wrong length": the soft bits are a reading's out buffer, and the bits one for each
 unfoldable pub bitsFault : Layout → List Float → List ℕ → Fault
 bitsFault l soft out = firstFault ((Buffer, not (eqb (length soft) (l .n)) || not (eqb (length out) (l .n))) ∷ [])
 
@@ -35,14 +34,7 @@ abbrev pub outcome : Answer → Outcome Unit
 outcome Done = answered tt
 outcome (Refused r) = refused (numberOf r)
 
-pub record PayloadBits (chosen : Outcome Layout) (soft : List Float) (out : List ℕ) (r : Answer) (out-then : List ℕ) : Type 0 where
+pub record PayloadBits (chosen : Outcome Layout) (soft : List Float) (out : List ℕ) (r : Answer) (out-then : List ℕ)
+    : Type 0 where
   pub answer : outcome r ≡ done (bitsAccepted chosen soft out)
   pub out-is : out-then ≡ after (bitsAccepted chosen soft out) (λ l. readBits soft (l .n)) out
-
--- ---- the two ways to meet it
-pub bits-refused : (chosen : Outcome Layout) (soft : List Float) (out : List ℕ) (r : Refusal) → bitsAccepted chosen soft out ≡ refused (numberOf r) → PayloadBits chosen soft out (Refused r) out
-bits-refused chosen soft out r e = record { answer = rw e refl; out-is = rw e refl }
-
-pub bits-done : (chosen : Outcome Layout) (soft : List Float) (out : List ℕ) (l : Layout) (out-then : List ℕ) → bitsAccepted chosen soft out ≡ answered l → out-then ≡ readBits soft (l .n)
-    → PayloadBits chosen soft out Done out-then
-bits-done chosen soft out l out-then e h = record { answer = rw e refl; out-is = rw e h }

@@ -22,7 +22,8 @@ use Rattle.dat.specs.AcceptedLaws.{row-in}
 use Rattle.psk.specs.declared.Sent.the-variants as sent
 use Rattle.psk.specs.Symbols.{Sending}
 use Rattle.psk.specs.Send.{Modulated}
-use Rattle.psk.specs.Accepted.{Ready, Call, call-of}
+use Rattle.psk.specs.Accepted.{Ready, Call}
+use Rattle.psk.proofs.AcceptedLaws.{call-of}
 use Rattle.decode.specs.Steps.{stepCount, stepPlace, gainOf, divided, receivedIn, scratchOf}
 use Rattle.decode.specs.SoftBits.{softBits}
 use Rattle.decode.specs.Entries.{scratch-at, step-at}

@@ -11,7 +11,7 @@ use Rattle.level.specs.Rows.{IsLayout}
 use Rattle.hold.specs.declared.Block.the-variants.{First}
 use Rattle.hold.specs.Offer.{freshHold}
 use Rattle.hold.specs.History.{Detection, History}
-use Rattle.hold.specs.HistoryRule.{history-rule}
+use Rattle.hold.proofs.HistoryRule.{history-rule}
 use Rattle.rx.specs.declared.State.{State}
 use Rattle.rx.specs.declared.FeedAnswer.{FeedAnswer}
 use Rattle.rx.specs.Receiver.{Receiver, Feed, fed}

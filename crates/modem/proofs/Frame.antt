@@ -33,10 +33,12 @@ use Rattle.demap.specs.SignLaw.{Near, Variance}
 use Rattle.demap.specs.PskLaws.{read-says, read-by}
 use Rattle.psk.specs.Symbols.{Sending, cellNumber, bitPlace, cellLabel}
 use Rattle.psk.specs.Accepted.{Ready}
-use Rattle.psk.specs.Numbers.{Numbered, number-below, cell-at}
-use Rattle.psk.specs.SentStep.{labelOf, stepOf, sent-step, frame-steps}
+use Rattle.psk.proofs.Numbers.{Numbered, number-below, cell-at}
+use Rattle.psk.specs.Step.{labelOf, stepOf}
+use Rattle.psk.proofs.SentStep.{sent-step, frame-steps}
 use Rattle.meter.specs.Meter.{wrongBits, meterFault, metered, count, differing}
-use Rattle.meter.specs.CellBound.{cellDiffers, differing-bound}
+use Rattle.meter.specs.CellBound.{cellDiffers}
+use Rattle.meter.proofs.CellBound.{differing-bound}
 use Rattle.meter.specs.PayloadBits.{readBits}
 use Rattle.decode.specs.Steps.{gainOf, receivedIn}
 use Rattle.decode.specs.Noise.{varianceOf}

@@ -18,7 +18,8 @@ use Rattle.filter.specs.Filter.{filteredEnd}
 use Rattle.hold.specs.declared.Release.{Release}
 use Rattle.hold.specs.declared.Release.the-variants.{NoRelease, Released}
 use Rattle.hold.specs.History.{Offer, Detection}
-use Rattle.hold.specs.Releases.{released, holdAfter, releases, holdAfter-append, releases-append}
+use Rattle.hold.specs.Releases.{released, holdAfter, releases}
+use Rattle.hold.specs.ReleasesLaws.{holdAfter-append, releases-append}
 use Rattle.search.specs.Search.{reach, searchCount, offersFrom}
 use Rattle.rx.specs.declared.State.{State}
 use Rattle.rx.specs.declared.FeedAnswer.{FeedAnswer}

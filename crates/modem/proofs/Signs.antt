@@ -23,7 +23,7 @@ use Rattle.demap.specs.SignLaw.{Near, Variance}
 use Rattle.demap.specs.SoftLaws.{variance-floored}
 use Rattle.demap.specs.GainLaws.{gain-near}
 use Rattle.demap.specs.PskLaws.{psk-label-below, psk-sign}
-use Rattle.psk.specs.Numbers.{Numbered, entry-numbered}
+use Rattle.psk.proofs.Numbers.{Numbered, entry-numbered}
 use Rattle.decode.specs.Steps.{stepCount, undivided, gainOf, divided, receivedIn}
 use Rattle.decode.specs.Noise.{varianceIn, varianceOf}
 use Rattle.decode.specs.SoftBits.{cellOf, receivedAt, softAt, softBits}

@@ -56,7 +56,10 @@ fn phase_after(phase: f32, step: f32, places: usize) -> f32
 
 // Fills a carrier's row with its phase at each place; answers the last.
 fn phase_row(row: &mut [f32], step: f32, phase: f32) -> f32
-    ensures { λ r. ⌜ (now (row .exit) ≡ tabulate (λ i. phaseAfter step phase (i + 1)) (length (now (row .entry)))) × (r ≡ phaseAfter step phase (length (now (row .entry)))) ⌝ }
+    ensures { λ r. ⌜
+        (now (row .exit) ≡ tabulate (λ i. phaseAfter step phase (i + 1)) (length (now (row .entry))))
+        × (r ≡ phaseAfter step phase (length (now (row .entry))))
+        ⌝ }
 {
     let mut last = phase;
     let mut i = 0;
@@ -84,7 +87,10 @@ pub fn advance(l: Layout, window: usize, phases: &mut [f32])
 // The phases at each place of a window, carrier by carrier, and after it.
 fn phase_rows(l: Layout, window: usize, phases: &mut [f32], out: &mut [f32])
     requires { ⌜ IsLayout l × (length (now phases) ≡ l .nc) × (length (now out) ≡ l .nc * window) ⌝ }
-    ensures { λ _. ⌜ (now (phases .exit) ≡ phasesAfter l window (now (phases .entry))) × (now (out .exit) ≡ phaseRows l window (now (phases .entry))) ⌝ }
+    ensures { λ _. ⌜
+        (now (phases .exit) ≡ phasesAfter l window (now (phases .entry)))
+        × (now (out .exit) ≡ phaseRows l window (now (phases .entry)))
+        ⌝ }
 {
     let mut c = 0;
     while c < l.nc {
@@ -143,7 +149,9 @@ fn nco_fault(l: Layout, window: usize, phases: &[f32], out: &[f32]) -> Fault
 
 fn layout_phase(l: Layout, window: usize, phases: &mut [f32], out: &mut [f32]) -> Answer
     requires { ⌜ IsLayout l ⌝ }
-    ensures { λ r. ⌜ NcoPhase (answered l) window (now (phases .entry)) (now (out .entry)) r (now (phases .exit)) (now (out .exit)) ⌝ }
+    ensures { λ r. ⌜
+        NcoPhase (answered l) window (now (phases .entry)) (now (out .entry)) r (now (phases .exit)) (now (out .exit))
+        ⌝ }
 {
     let fault = nco_fault(l, window, phases, out);
     match fault {
@@ -163,7 +171,10 @@ pub fn nco_phase(
     phases: &mut [f32],
     out: &mut [f32],
 ) -> Answer
-    ensures { λ r. ⌜ NcoPhase (chosen bandwidth rec) window (now (phases .entry)) (now (out .entry)) r (now (phases .exit)) (now (out .exit)) ⌝ }
+    ensures { λ r. ⌜
+        NcoPhase (chosen bandwidth rec) window (now (phases .entry)) (now (out .entry)) r (now (phases .exit))
+        (now (out .exit))
+        ⌝ }
 {
     let chosen = level::choose(bandwidth, rec);
     match chosen {

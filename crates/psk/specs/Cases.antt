@@ -1,19 +1,24 @@
--- The cases marked (P) in 01 that are the sender's.
-use mathlib.Core.Path.{_≡_, refl}
-use mathlib.Core.Bool.{true}
-use mathlib.Core.List.{[], _∷_}
-use lib.Ieee.{neg, add, sub, mul, eq, ofBits}
-use Rattle.complex.specs.Arithmetic.{cx, fzero, cmul}
-use Rattle.constellation.specs.Alphabet.{fone, alphabet, pointOf}
+-- The case of 01 marked (P) that is the running point's: "j after j from 1 gives −1". Definitions only.
+use Prim.Native.Nat.{ℕ, suc}
+use mathlib.Core.Path.{_≡_}
+use mathlib.Core.Bool.{true, false}
+use mathlib.Core.List.{List}
+use Rattle.constellation.specs.Alphabet.{pointOf}
 use Rattle.constellation.specs.Points.{sameNumber}
-use Rattle.constellation.specs.Label.{labelAt}
+use Rattle.level.specs.declared.Layout.{Layout}
+use Rattle.dat.specs.Tables.{marked}
+use Rattle.psk.specs.Symbols.{cellLabel, runningPoint}
 
--- "bits 1,0 mean −j"
-pub bits-one-zero : pointOf 2 (labelAt (1 ∷ 0 ∷ []) 0 2) ≡ cx fzero (neg fone)
-unfolding pointOf alphabet labelAt
-bits-one-zero = refl
+-- symbol s of carrier c in frame f is no marker, and its bits label j
+pub record SendsJ (l : Layout) (markers payload : List ℕ) (f c s : ℕ) : Type 0 where
+  pub unmarked : marked l markers c s ≡ false
+  pub label : cellLabel l markers payload f c s ≡ 1
 
--- "j after j from 1 gives −1"
-pub j-after-j : sameNumber (cmul (cmul (cx fone fzero) (cx fzero fone)) (cx fzero fone)) (cx (neg fone) fzero) ≡ true
-unfolding cmul neg add sub mul eq ofBits
-j-after-j = refl
+-- proved as `j-after-j`: where the running point is 1 at symbol s of a carrier of two bits a symbol and the next two
+-- cells send j, it is −1 after them, as a number
+abbrev pub JAfterJ : Type 0
+JAfterJ =
+    (l : Layout) (markers payload draws : List ℕ) (f c s : ℕ) → l .bps ≡ 2
+    → runningPoint l markers payload draws f c s ≡ pointOf 2 0
+    → SendsJ l markers payload f c (suc s) → SendsJ l markers payload f c (suc (suc s))
+    → sameNumber (runningPoint l markers payload draws f c (suc (suc s))) (pointOf 2 3) ≡ true

@@ -1,14 +1,7 @@
 pub mod Symbols
 pub mod Send
+pub mod Accepted
 pub mod Step
 pub mod Running
 pub mod Written
-pub mod Rows
-pub mod Accepted
-pub mod Places
-pub mod Numbers
-pub mod Turn
-pub mod SentStep
-pub mod Size
-pub mod RowSize
 pub mod Cases

@@ -1,5 +1,5 @@
--- What a call of the sender comes to: conditions 1 to 11 (01, "Where each fault is met"), or the rows. Definitions only.
-use Prim.Native.Nat.{ℕ, _+_, _*_, _^_}
+-- What a call of the sender comes to (01, "Where each fault is met"): conditions 1 to 11, or rows. Definitions only.
+use Prim.Native.Nat.{ℕ, _+_, _*_}
 use mathlib.Core.Path.{_≡_}
 use mathlib.Core.Bool.{Bool, not, _||_}
 use mathlib.Core.List.{List, [], _∷_}
@@ -11,6 +11,7 @@ use Rattle.refusal.specs.declared.Refusal.the-variants.{Frames, Payload, Draws,
 use Rattle.refusal.specs.Refusal.{numberOf}
 use Rattle.refusal.specs.Outcome.{Outcome, refused, answered, andThen, firstFault, orElse, judged}
 use Rattle.refusal.specs.Any.{any}
+use Rattle.constellation.specs.Alphabet.{alphabet}
 use Rattle.level.specs.declared.Layout.{Layout}
 use Rattle.level.specs.Frames.{wrongFrames}
 use Rattle.level.specs.Layout.{chosen}
@@ -24,13 +25,17 @@ use Rattle.psk.specs.Symbols.{Sending, rowsOf}
 unfoldable pub wrongBytes : ℕ → ℕ → List ℕ → Bool
 wrongBytes count limit bytes = not (eqb (length bytes) count) || any (λ i. leb limit (getD bytes i 0)) (length bytes)
 
--- 9: "payload length not frames × n .., or a byte above 1"
+-- 9: "payload length not frames × n (meter: n), or a byte above 1"
 unfoldable pub wrongPayload : Layout → ℕ → List ℕ → Bool
 wrongPayload l frames payload = wrongBytes (frames * l .n) 2 payload
 
+-- "the alphabet size": the points of a layout's alphabet
+unfoldable pub alphabetSize : Layout → ℕ
+alphabetSize l = length (alphabet (l .bps))
+
 -- 10: "draws not nc × (frames + 8), or one not below the alphabet size"
 unfoldable pub wrongDraws : Layout → ℕ → List ℕ → Bool
-wrongDraws l frames draws = wrongBytes (l .nc * (frames + 8)) (2 ^ l .bps) draws
+wrongDraws l frames draws = wrongBytes (l .nc * (frames + 8)) (alphabetSize l) draws
 
 -- 11: the rows are nc × L complex numbers, two f64 each
 unfoldable pub wrongRows : Layout → ℕ → ℕ → Bool
@@ -48,7 +53,8 @@ senderFault l frames payload draws room =
 
 -- conditions 3 to 11
 unfoldable pub sendFault : Layout → Sending → ℕ → Fault
-sendFault l m room = orElse (tableFault l (m .markers) (m .phasors)) (senderFault l (m .frames) (m .payload) (m .draws) room)
+sendFault l m room =
+    orElse (tableFault l (m .markers) (m .phasors)) (senderFault l (m .frames) (m .payload) (m .draws) room)
 
 -- what sending in a layout comes to: the number of the first fault, or the rows
 unfoldable pub sentIn : Layout → Sending → ℕ → Outcome (List Float)

@@ -15,7 +15,7 @@ use Rattle.constellation.specs.Label.{labelAt}
 use Rattle.level.specs.declared.Layout.{Layout}
 use Rattle.level.specs.Lengths.{cells, rowLength}
 use Rattle.dat.specs.Tables.{marked}
-use Rattle.dat.specs.Cells.{symbolsWhere, phasor}
+use Rattle.dat.specs.Cells.{symbolsWhere, cellsOf, Cell, byCarrier, phasor}
 
 -- what the sender takes beside the layout: the tables, the count of frames, the payload's bytes and the draws
 pub record Sending : Type 0 where
@@ -26,7 +26,8 @@ pub record Sending : Type 0 where
   pub draws : List ℕ
 
 abbrev pub sending : List ℕ → List Float → ℕ → List ℕ → List ℕ → Sending
-sending markers phasors frames payload draws = record { markers = markers; phasors = phasors; frames = frames; payload = payload; draws = draws }
+sending markers phasors frames payload draws =
+    record { markers = markers; phasors = phasors; frames = frames; payload = payload; draws = draws }
 
 -- "Draws: frame by frame, for each carrier one reference point": that of carrier c in frame f
 unfoldable pub referencePoint : Layout → List ℕ → ℕ → ℕ → Complex
@@ -42,6 +43,10 @@ pub record IsCell (l : Layout) (markers : List ℕ) (c s : ℕ) : Type 0 where
   pub least : 1 ≤ s
   pub most : s < l .nsym
   pub unmarked : marked l markers c s ≡ false
+
+-- "Cells run carrier by carrier, then by symbol.": the cells of all carriers
+abbrev pub cellList : Layout → List ℕ → List Cell
+cellList l markers = byCarrier (cellsOf l markers) (l .nc)
 
 -- the cells of carrier c before its symbol s
 unfoldable pub cellsBefore : Layout → List ℕ → ℕ → ℕ → ℕ
@@ -59,8 +64,8 @@ bitPlace l markers f c s = f * l .n + cellNumber l markers c s * l .bps
 unfoldable pub cellLabel : Layout → List ℕ → List ℕ → ℕ → ℕ → ℕ → ℕ
 cellLabel l markers payload f c s = labelAt payload (bitPlace l markers f c s) (l .bps)
 
--- "A frame's running point d starts at its reference; a cell multiplies it by the point labelled by the cell's bits, a marker keeps it."
--- d at symbol s of carrier c in frame f
+-- "A frame's running point d starts at its reference; a cell multiplies it by the point labelled by the cell's bits, a
+-- marker keeps it.": d at symbol s of carrier c in frame f
 unfoldable pub runningPoint : Layout → List ℕ → List ℕ → List ℕ → ℕ → ℕ → ℕ → Complex
 runningPoint l markers payload draws f c zero = referencePoint l draws f c
 runningPoint l markers payload draws f c (suc s) =
@@ -81,7 +86,8 @@ leadSymbol l phasors frames draws c k = symbolOf (leadPoint l frames draws c k) 
 
 -- symbol s of frame f of carrier c
 unfoldable pub frameSymbol : Layout → List ℕ → List Float → List ℕ → List ℕ → ℕ → ℕ → ℕ → Complex
-frameSymbol l markers phasors payload draws c f s = symbolOf (runningPoint l markers payload draws f c s) (phasor l phasors c s)
+frameSymbol l markers phasors payload draws c f s =
+    symbolOf (runningPoint l markers payload draws f c s) (phasor l phasors c s)
 
 -- rows of w entries, one after the other, as one: entry i
 unfoldable pub inRows : ℕ → (ℕ → ℕ → Complex) → ℕ → Complex
@@ -91,7 +97,8 @@ inRows w g i = g (i / w) (i % w)
 unfoldable pub rowSymbol : Layout → Sending → ℕ → ℕ → Complex
 rowSymbol l m c k =
     cond (ltb k 8) (leadSymbol l (m .phasors) (m .frames) (m .draws) c k)
-    (cond (ltb k (8 + m .frames * l .nsym)) (inRows (l .nsym) (frameSymbol l (m .markers) (m .phasors) (m .payload) (m .draws) c) (k - 8)) czero)
+    (cond (ltb k (8 + m .frames * l .nsym))
+    (inRows (l .nsym) (frameSymbol l (m .markers) (m .phasors) (m .payload) (m .draws) c) (k - 8)) czero)
 
 -- the rows of all carriers, one after the other, as two f64 a symbol
 unfoldable pub rowsOf : Layout → Sending → List Float

@@ -93,7 +93,10 @@ fn send_fault(
     room: usize,
 ) -> Fault
     requires { ⌜ IsLayout l ⌝ }
-    ensures { λ r. ⌜ r ≡ sendFault l (sending (now (markers .entry)) (now (phasors .entry)) frames (now (payload .entry)) (now (draws .entry))) room ⌝ }
+    ensures { λ r. ⌜
+        r ≡ sendFault l (sending (now (markers .entry)) (now (phasors .entry)) frames (now (payload .entry))
+        (now (draws .entry))) room
+        ⌝ }
 {
     let fault = dat::table_fault(l, markers, phasors);
     match fault {
@@ -128,7 +131,10 @@ fn drawn(l: Layout, draws: &[u8], i: usize) -> Complex
 // The leads of carrier c.
 fn put_lead(l: Layout, phasors: &[f64], frames: usize, draws: &[u8], c: usize, rows: &mut [f64])
     requires { ⌜ LeadReady l (now phasors) frames (now draws) c (length (now rows)) ⌝ }
-    ensures { λ _. ⌜ now (rows .exit) ≡ written (leadSymbol l (now (phasors .entry)) frames (now (draws .entry)) c) (c * rowLength l frames) 8 (now (rows .entry)) ⌝ }
+    ensures { λ _. ⌜
+        now (rows .exit) ≡ written (leadSymbol l (now (phasors .entry)) frames (now (draws .entry)) c)
+        (c * rowLength l frames) 8 (now (rows .entry))
+        ⌝ }
 {
     let at = c * level::row_len(l, frames);
     let first = frames * l.nc;
@@ -180,7 +186,10 @@ fn put_frame(
     rows: &mut [f64],
 )
     requires { ⌜ FrameReady l (now markers) (now phasors) (now payload) (now draws) c f at (length (now rows)) ⌝ }
-    ensures { λ _. ⌜ now (rows .exit) ≡ written (frameSymbol l (now (markers .entry)) (now (phasors .entry)) (now (payload .entry)) (now (draws .entry)) c f) at (l .nsym) (now (rows .entry)) ⌝ }
+    ensures { λ _. ⌜
+        now (rows .exit) ≡ written (frameSymbol l (now (markers .entry)) (now (phasors .entry)) (now (payload .entry))
+        (now (draws .entry)) c f) at (l .nsym) (now (rows .entry))
+        ⌝ }
 {
     let from = c * l.nsym;
     let last = l.nsym - 1;
@@ -205,8 +214,15 @@ fn put_frames(
     c: usize,
     rows: &mut [f64],
 )
-    requires { ⌜ Ready l (sending (now markers) (now phasors) frames (now payload) (now draws)) (length (now rows)) × (c < l .nc) ⌝ }
-    ensures { λ _. ⌜ now (rows .exit) ≡ written (inRows (l .nsym) (frameSymbol l (now (markers .entry)) (now (phasors .entry)) (now (payload .entry)) (now (draws .entry)) c)) (c * rowLength l frames + 8) (frames * l .nsym) (now (rows .entry)) ⌝ }
+    requires { ⌜
+        Ready l (sending (now markers) (now phasors) frames (now payload) (now draws)) (length (now rows))
+        × (c < l .nc)
+        ⌝ }
+    ensures { λ _. ⌜
+        now (rows .exit) ≡ written (inRows (l .nsym)
+        (frameSymbol l (now (markers .entry)) (now (phasors .entry)) (now (payload .entry)) (now (draws .entry)) c))
+        (c * rowLength l frames + 8) (frames * l .nsym) (now (rows .entry))
+        ⌝ }
 {
     let at = c * level::row_len(l, frames) + 8;
     let mut f = 0;
@@ -237,8 +253,15 @@ fn put_row(
     c: usize,
     rows: &mut [f64],
 )
-    requires { ⌜ Ready l (sending (now markers) (now phasors) frames (now payload) (now draws)) (length (now rows)) × (c < l .nc) ⌝ }
-    ensures { λ _. ⌜ now (rows .exit) ≡ written (rowSymbol l (sending (now (markers .entry)) (now (phasors .entry)) frames (now (payload .entry)) (now (draws .entry))) c) (c * rowLength l frames) (rowLength l frames) (now (rows .entry)) ⌝ }
+    requires { ⌜
+        Ready l (sending (now markers) (now phasors) frames (now payload) (now draws)) (length (now rows))
+        × (c < l .nc)
+        ⌝ }
+    ensures { λ _. ⌜
+        now (rows .exit) ≡ written (rowSymbol l (sending (now (markers .entry)) (now (phasors .entry)) frames
+        (now (payload .entry)) (now (draws .entry))) c) (c * rowLength l frames) (rowLength l frames)
+        (now (rows .entry))
+        ⌝ }
 {
     put_lead(l, phasors, frames, draws, c, rows);
     put_frames(l, markers, phasors, frames, payload, draws, c, rows);
@@ -257,7 +280,10 @@ fn put_rows(
     rows: &mut [f64],
 )
     requires { ⌜ Ready l (sending (now markers) (now phasors) frames (now payload) (now draws)) (length (now rows)) ⌝ }
-    ensures { λ _. ⌜ now (rows .exit) ≡ rowsOf l (sending (now (markers .entry)) (now (phasors .entry)) frames (now (payload .entry)) (now (draws .entry))) ⌝ }
+    ensures { λ _. ⌜
+        now (rows .exit) ≡ rowsOf l (sending (now (markers .entry)) (now (phasors .entry)) frames
+        (now (payload .entry)) (now (draws .entry)))
+        ⌝ }
 {
     let mut c = 0;
     while c < l.nc {
@@ -277,7 +303,10 @@ fn send(
     rows: &mut [f64],
 ) -> Sent
     requires { ⌜ IsLayout l ⌝ }
-    ensures { λ r. ⌜ SentIn l (sending (now (markers .entry)) (now (phasors .entry)) frames (now (payload .entry)) (now (draws .entry))) (now (rows .entry)) (now (rows .exit)) r ⌝ }
+    ensures { λ r. ⌜
+        SentIn l (sending (now (markers .entry)) (now (phasors .entry)) frames (now (payload .entry))
+        (now (draws .entry))) (now (rows .entry)) (now (rows .exit)) r
+        ⌝ }
 {
     let fault = send_fault(l, markers, phasors, frames, payload, draws, rows.len());
     match fault {
@@ -300,7 +329,10 @@ pub fn modulate(
     draws: &[u8],
     rows: &mut [f64],
 ) -> Sent
-    ensures { λ r. ⌜ Modulated bandwidth rec (sending (now (markers .entry)) (now (phasors .entry)) frames (now (payload .entry)) (now (draws .entry))) (now (rows .entry)) (now (rows .exit)) r ⌝ }
+    ensures { λ r. ⌜
+        Modulated bandwidth rec (sending (now (markers .entry)) (now (phasors .entry)) frames (now (payload .entry))
+        (now (draws .entry))) (now (rows .entry)) (now (rows .exit)) r
+        ⌝ }
 {
     let chosen = level::choose(bandwidth, rec);
     match chosen {

@@ -26,7 +26,8 @@ use Rattle.hold.specs.declared.Candidate.the-variants.{NoCandidate, Metric}
 use Rattle.hold.specs.declared.Hold.{Hold}
 use Rattle.hold.specs.Offer.{atLeast, due, greater, taken, keeping, releasing, offeredAt, offered}
 use Rattle.hold.specs.History.{Offer}
-use Rattle.hold.specs.Releases.{offeredIn, holdAfter, holdAfter-append}
+use Rattle.hold.specs.Releases.{offeredIn, holdAfter}
+use Rattle.hold.specs.ReleasesLaws.{holdAfter-append}
 use Rattle.search.specs.Search.{reach, offerOf, offersFrom}
 use Rattle.rx.specs.declared.SearchPlace.{SearchPlace}
 use Rattle.rx.specs.declared.SearchPlace.the-variants.{Fresh, At}

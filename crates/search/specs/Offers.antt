@@ -30,7 +30,8 @@ use Rattle.hold.specs.declared.Release.the-variants.{NoRelease, Released}
 use Rattle.hold.specs.declared.Offered.{Offered}
 use Rattle.hold.specs.Offer.{atLeast, greater, due, taken, keeping, releasing, offeredAt, offered, Room}
 use Rattle.hold.specs.History.{Offer, Detection}
-use Rattle.hold.specs.Releases.{offeredIn, released, holdAfter, releases, holdAfter-append, releases-append}
+use Rattle.hold.specs.Releases.{offeredIn, released, holdAfter, releases}
+use Rattle.hold.specs.ReleasesLaws.{holdAfter-append, releases-append}
 use Rattle.search.specs.Chi.{Tables, allMarks, allKept, cellPosition, cellSum, pilotSum, dataSum, chiOf, chiAt}
 use Rattle.search.specs.Search.{reach, searchCount, offerOf, offersFrom}
 use Rattle.search.specs.Fits.{latest, offeredNext, lastReleased, Searched, HeldBelow, HoldFits}

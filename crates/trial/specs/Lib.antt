@@ -2,11 +2,6 @@ pub mod Words
 pub mod Numbers
 pub mod Trial
 pub mod Scan
-pub mod ScanLaws
 pub mod Run
-pub mod RunLaws
-pub mod OffersLaws
 pub mod Write
-pub mod AnswerLaws
-pub mod DecimalBack
 pub mod Cases

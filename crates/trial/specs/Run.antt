@@ -1,4 +1,4 @@
--- How the code runs a trial: the head of a row of tokens, the offers after it, and the releases as a row of numbers.
+-- How the code runs a trial: the head of a row of tokens, the offers, and the releases as numbers. Definitions only.
 use mathlib.Core.Path.{_≡_}
 use mathlib.Core.List.{List, [], _∷_, _++_}
 use mathlib.Core.Option.{Option, none, some, Option·map}

@@ -1,4 +1,4 @@
--- How the code reads the words of a text: places in it, and tokens as numbers of 64 bits.
+-- How the code reads the words of a text: places in it, and tokens as numbers of 64 bits. Definitions only.
 use mathlib.Core.Path.{_≡_}
 use mathlib.Core.Bool.{true, false, cond}
 use mathlib.Core.List.{List, map}

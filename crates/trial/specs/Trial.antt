@@ -53,7 +53,8 @@ unfoldable pub offersIn : List Token → Option (List Offer)
 offersIn [] = some []
 offersIn (p ∷ []) = none
 offersIn (p ∷ m ∷ ts) =
-    bind (numberIn p) (λ p. bind (candidateIn m) (λ c. Option·map (λ os. record { position = record { 0 = p }; candidate = c } ∷ os) (offersIn ts)))
+    bind (numberIn p) (λ p. bind (candidateIn m) (λ c.
+    Option·map (λ os. record { position = record { 0 = p }; candidate = c } ∷ os) (offersIn ts)))
 
 pub record Trial : Type 0 where
   pub hold : ℕ
@@ -86,7 +87,7 @@ report ds = decimal (length ds) ++ (10 ∷ flatMap line ds)
 unfoldable pub bad : List ℕ
 bad = 98 ∷ 97 ∷ 100 ∷ 10 ∷ []
 
--- "Any other form .. prints `bad`."
+-- "Any other form, over 1,000 offers or a number above 2^48 prints `bad`."
 unfoldable pub answer : Option Trial → List ℕ
 answer none = bad
 answer (some t) = report (releases (freshHold (t .hold) (t .dead)) (t .offers))

@@ -1,4 +1,4 @@
--- The words of a text: what stands between "blanks or line ends" (01, "Beside the chain", `holdtrial`). Definitions only.
+-- The words of a text, between "blanks or line ends" (01, "Beside the chain", `holdtrial`). Definitions only.
 use mathlib.Core.Bool.{Bool, true, false, cond, _||_}
 use mathlib.Core.List.{List, [], _∷_}
 use Prim.Native.Nat.{ℕ}
@@ -16,7 +16,8 @@ word (b ∷ s) = cond (separator b) [] (b ∷ word s)
 -- the words that begin in a text, where `inside` says that a word goes on from before it
 unfoldable pub wordsFrom : Bool → List ℕ → List (List ℕ)
 wordsFrom inside [] = []
-wordsFrom inside (b ∷ s) = cond (separator b) (wordsFrom false s) (cond inside (wordsFrom true s) ((b ∷ word s) ∷ wordsFrom true s))
+wordsFrom inside (b ∷ s) =
+    cond (separator b) (wordsFrom false s) (cond inside (wordsFrom true s) ((b ∷ word s) ∷ wordsFrom true s))
 
 unfoldable pub words : List ℕ → List (List ℕ)
 words s = wordsFrom false s

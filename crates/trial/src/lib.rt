@@ -1,4 +1,5 @@
-// A trial of the hold as text (01, "Beside the chain", `holdtrial`): the words of the input become tokens, the offers run, and the releases are written.
+// A trial of the hold as text (01, "Beside the chain", `holdtrial`): the words of the input become tokens, the offers
+// run, and the releases are written.
 ghost use mathlib.Core.Path.{_≡_};
 ghost use mathlib.Core.Bool.{true, false};
 ghost use mathlib.Core.List.{[], _∷_};
@@ -303,7 +304,9 @@ fn write_bad(out: &mut [u8]) -> usize
 // The answer to a row of tokens.
 fn answer_tokens(tokens: &[u64], out: &mut [u8]) -> usize
     requires { ⌜ 65536 ≤ length (now out) ⌝ }
-    ensures { λ r. ⌜ Writes (answer (trialOf (tokensIn (now (tokens .entry))))) (now (out .entry)) 0 (now (out .exit)) r ⌝ }
+    ensures { λ r. ⌜
+        Writes (answer (trialOf (tokensIn (now (tokens .entry))))) (now (out .entry)) 0 (now (out .exit)) r
+        ⌝ }
 {
     let Head::Numbers(hold, dead, count) = read_head(tokens) else {
         return write_bad(out);

@@ -4,7 +4,7 @@ use mathlib.Core.Path.{sym, ap, _∙_}
 use borrow.Author.Needs.{needs}
 use Rattle.refusal.specs.declared.Fault.{Fault}
 use Rattle.refusal.specs.Outcome.{answered, judged}
-use Rattle.nco.specs.WindowCall.{call-refused, call-done}
+use Rattle.nco.proofs.WindowCallLaws.{call-refused, call-done}
 use Rattle.audio.specs.Audio.{audioWindow, lentWave}
 use Rattle.audio.proofs.Accepted.{sound-of}
 use Rattle.audio.proofs.layout_audio.Statement.{statement}
@@ -50,7 +50,7 @@ returns-2 c =
     let clear = sym (c .before .before .before .before .before .before .before .before .before .before .audio-fault .ensures) ∙ c .before .before .before .before .before .before .before .before .enum-told .given .1 in
     let k = sound-of _ _ _ _ _ _ _ _ (c .before .before .before .before .before .before .before .before .before .before .before .before .before .before .before .before .before .pre) clear in
     call-done _ _ _ _ _ _ _ _ (ap (λ (f : Fault). judged f (answered (s .l))) clear) (c .before .before .advance .ensures)
-    (c .before .before .before .before .before .before .audio-window .ensures ∙ ap (λ (w : ℕ). audioWindow (s .l) (s .frames) (s .symbols .now) (lentWave (s .waves .now) (s .place) w) (s .place) w) (k .out-is))
+    (c .before .before .before .before .before .before .audio-window .ensures ∙ ap (λ (w : ℕ). audioWindow (s .l) (s .frames) (s .symbols .now) (lentWave (s .waves .now) (s .place .0) w) (s .place .0) w) (k .out-is))
 
 pub layout-audio-spec : {M : Type 1} → statement M
 layout-audio-spec =

@@ -1,7 +1,7 @@
 -- `hold::lone_offer` meets its contract: refused where 21 is met, and otherwise `offer`'s. Assumes nothing.
 use mathlib.Core.Path.{sym, _∙_}
 use borrow.Author.Needs.{needs}
-use Rattle.hold.specs.LoneOffer.{lone-room, lone-refused, lone-answered}
+use Rattle.hold.proofs.LoneOfferLaws.{lone-room, lone-refused, lone-answered}
 use Rattle.hold.proofs.lone_offer.Statement.{statement}
 use Rattle.hold.proofs.lone_offer.Tie as tie
 

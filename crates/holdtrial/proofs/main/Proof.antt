@@ -1,6 +1,6 @@
 -- `holdtrial::main` meets its contract: what it writes is a part of the buffer. Assumes nothing.
 use borrow.Author.Needs.{needs}
-use Rattle.trial.specs.Write.{prints-taken, prints-within}
+use Rattle.trial.proofs.WriteLaws.{prints-taken, prints-within}
 use Rattle.holdtrial.proofs.main.Statement.{statement}
 use Rattle.holdtrial.proofs.main.Tie as tie
 

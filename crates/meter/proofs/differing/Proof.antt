@@ -4,7 +4,7 @@ use mathlib.Core.Path.{_≡_, refl, ap, _∙_}
 use mathlib.Core.Logic.{⊎-elim}
 use native.Mathlib.Omega.{arith}
 use Rattle.meter.specs.Meter.{count, differing}
-use Rattle.meter.specs.MeterLaws.{differs-more, differs-same}
+use Rattle.meter.proofs.MeterLaws.{differs-more, differs-same}
 use Rattle.meter.proofs.differing.Statement.{statement}
 use Rattle.meter.proofs.differing.Tie as tie
 

@@ -10,7 +10,8 @@ use lib.ListN.{length}
 use lib.Ieee.{Float}
 use Rattle.refusal.specs.Outcome.{refused, answered}
 use Rattle.level.specs.declared.Layout.{Layout}
-use Rattle.meter.specs.PayloadBits.{readBits, bitsFault, bitsAccepted, bits-refused, bits-done}
+use Rattle.meter.specs.PayloadBits.{readBits, bitsFault, bitsAccepted}
+use Rattle.meter.proofs.PayloadBitsLaws.{bits-refused, bits-done}
 use Rattle.meter.proofs.layout_bits.Statement.{statement}
 use Rattle.meter.proofs.layout_bits.Tie as tie
 

@@ -7,7 +7,7 @@ use borrow.Author.Needs.{needs}
 use Rattle.refusal.specs.Outcome.{refused, answered}
 use Rattle.level.specs.declared.Layout.{Layout}
 use Rattle.meter.specs.Meter.{wrongBits, meterFault, differing, metered}
-use Rattle.meter.specs.MeterLaws.{bits-length}
+use Rattle.meter.proofs.MeterLaws.{bits-length}
 use Rattle.meter.proofs.layout_meter.Statement.{statement}
 use Rattle.meter.proofs.layout_meter.Tie as tie
 

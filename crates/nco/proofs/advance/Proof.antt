@@ -2,7 +2,7 @@
 use Rattle.complex.specs.Lists.{filled}
 use Rattle.complex.specs.ListLaws.{filled-none}
 use Rattle.nco.specs.Phase.{carrierPhase}
-use Rattle.nco.specs.PhaseLaws.{phase-still, phases-turn, phases-done}
+use Rattle.nco.proofs.PhaseLaws.{phase-still, phases-turn, phases-done}
 use Prim.Native.Nat.{_-_, _≤_}
 use mathlib.Core.Path.{_≡_, refl, _∙_}
 use native.Mathlib.Omega.{arith}

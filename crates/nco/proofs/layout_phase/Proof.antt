@@ -3,8 +3,8 @@ use mathlib.Core.Path.{sym, ap, _∙_}
 use borrow.Author.Needs.{needs}
 use Rattle.refusal.specs.declared.Fault.{Fault}
 use Rattle.refusal.specs.Outcome.{answered, judged}
-use Rattle.nco.specs.WindowCall.{call-refused, call-done}
-use Rattle.nco.specs.Accepted.{lengths-of}
+use Rattle.nco.proofs.WindowCallLaws.{call-refused, call-done}
+use Rattle.nco.proofs.Accepted.{lengths-of}
 use Rattle.nco.proofs.layout_phase.Statement.{statement}
 use Rattle.nco.proofs.layout_phase.Tie as tie
 

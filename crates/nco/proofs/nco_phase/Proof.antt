@@ -10,7 +10,7 @@ use Rattle.level.specs.Layout.{outcome}
 use Rattle.level.specs.RowLaws.{is-layout}
 use Rattle.nco.specs.declared.Answer.{Answer}
 use Rattle.nco.specs.Nco.{ncoAccepted, NcoPhase}
-use Rattle.nco.specs.WindowCall.{call-refused}
+use Rattle.nco.proofs.WindowCallLaws.{call-refused}
 use Rattle.nco.proofs.nco_phase.Statement.{statement}
 use Rattle.nco.proofs.nco_phase.Tie as tie
 

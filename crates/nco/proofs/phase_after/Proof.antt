@@ -3,7 +3,7 @@ use Prim.Native.Nat.{_-_, _≤_}
 use mathlib.Core.Path.{_≡_, sym, ap, _∙_}
 use native.Mathlib.Omega.{arith}
 use Rattle.nco.specs.Phase.{phaseNext, phaseAfter}
-use Rattle.nco.specs.PhaseLaws.{phase-none, phase-step}
+use Rattle.nco.proofs.PhaseLaws.{phase-none, phase-step}
 use borrow.Author.Needs.{needs}
 use Rattle.nco.proofs.phase_after.Statement.{statement}
 use Rattle.nco.proofs.phase_after.Tie as tie

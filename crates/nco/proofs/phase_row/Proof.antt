@@ -7,7 +7,7 @@ use lib.Ieee.{Float, nan}
 use Rattle.complex.specs.Lists.{filled}
 use Rattle.complex.specs.ListLaws.{filled-none, filled-step, filled-all}
 use Rattle.nco.specs.Phase.{phaseNext, phaseAfter}
-use Rattle.nco.specs.PhaseLaws.{phase-none, phase-step}
+use Rattle.nco.proofs.PhaseLaws.{phase-none, phase-step}
 use borrow.Author.Needs.{needs}
 use Rattle.nco.proofs.phase_row.Statement.{statement}
 use Rattle.nco.proofs.phase_row.Tie as tie

@@ -1,9 +1,10 @@
 -- `nco::phase_rows` meets its contract: the rows of the carriers passed, and their phases after the window. Assumes nothing.
 use Rattle.complex.specs.Lists.{tabulate, filled}
 use Rattle.complex.specs.ListLaws.{filled-none, tabulate-ext}
-use Rattle.nco.specs.Rows.{rows, rowsFilled, rows-none, rows-turn, rows-all, row-within, row-length}
+use Rattle.nco.specs.Rows.{rows, rowsFilled}
+use Rattle.nco.proofs.RowsLaws.{rows-none, rows-turn, rows-all, row-within, row-length}
 use Rattle.nco.specs.Phase.{phaseAfter, carrierPhase, phaseRows}
-use Rattle.nco.specs.PhaseLaws.{phase-still, phases-turn, phases-done}
+use Rattle.nco.proofs.PhaseLaws.{phase-still, phases-turn, phases-done}
 use borrow.Rule.Slice.PartMut.{same-len-mid}
 use Prim.Native.Nat.{ℕ, _+_, _-_, _*_, _≤_}
 use mathlib.Core.Path.{_≡_, refl, sym, ap, _∙_}

@@ -13,10 +13,12 @@ use Rattle.level.specs.SizedLaws.{sized}
 use Rattle.dat.specs.AcceptedLaws.{phasor-in}
 use Rattle.psk.specs.declared.Running.{Running}
 use Rattle.psk.specs.Symbols.{runningPoint, symbolOf, frameSymbol}
-use Rattle.psk.specs.Running.{runningAt, advanced, start-is, advanced-is}
-use Rattle.psk.specs.Written.{written, written-none, written-step, written-length, written-first}
+use Rattle.psk.specs.Running.{runningAt, advanced}
+use Rattle.psk.proofs.RunningLaws.{start-is, advanced-is}
+use Rattle.psk.specs.Written.{written}
+use Rattle.psk.proofs.WrittenLaws.{written-none, written-step, written-length, written-first}
 use Rattle.psk.specs.Accepted.{FrameReady, CellReady}
-use Rattle.psk.specs.Places.{phasors-small, cell-ready}
+use Rattle.psk.proofs.Places.{phasors-small, cell-ready}
 use Rattle.psk.proofs.put_frame.Statement.{statement}
 use Rattle.psk.proofs.put_frame.Tie as tie
 

@@ -6,8 +6,9 @@ use native.Mathlib.Omega.{arith}
 use borrow.Author.Needs.{needs}
 use lib.ListN.{length}
 use Rattle.psk.specs.Symbols.{frameSymbol, inRows}
-use Rattle.psk.specs.Written.{written, written-length, written-same, rows-none, rows-step}
-use Rattle.psk.specs.Places.{starts-small, frames-small, frame-ready}
+use Rattle.psk.specs.Written.{written}
+use Rattle.psk.proofs.WrittenLaws.{written-length, written-same, rows-none, rows-step}
+use Rattle.psk.proofs.Places.{starts-small, frames-small, frame-ready}
 use Rattle.psk.proofs.put_frames.Statement.{statement}
 use Rattle.psk.proofs.put_frames.Tie as tie
 

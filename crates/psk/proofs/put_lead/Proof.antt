@@ -15,9 +15,10 @@ use Rattle.level.specs.Lengths.{rowLength}
 use Rattle.level.specs.SizedLaws.{sized}
 use Rattle.dat.specs.AcceptedLaws.{phasor-in}
 use Rattle.psk.specs.Symbols.{leadPoint, symbolOf, leadSymbol}
-use Rattle.psk.specs.Written.{written, written-none, written-step, written-length, written-same}
+use Rattle.psk.specs.Written.{written}
+use Rattle.psk.proofs.WrittenLaws.{written-none, written-step, written-length, written-same}
 use Rattle.psk.specs.Accepted.{LeadReady}
-use Rattle.psk.specs.Places.{lead-drawn, draws-small, starts-small, phasors-small, row-room}
+use Rattle.psk.proofs.Places.{lead-drawn, draws-small, starts-small, phasors-small, row-room}
 use Rattle.psk.proofs.put_lead.Statement.{statement}
 use Rattle.psk.proofs.put_lead.Tie as tie
 

@@ -13,10 +13,11 @@ use Rattle.complex.specs.Pairs.{cset}
 use Rattle.level.specs.declared.Layout.{Layout}
 use Rattle.level.specs.Lengths.{rowLength}
 use Rattle.psk.specs.Symbols.{Sending, inRows, rowSymbol}
-use Rattle.psk.specs.Written.{written, written-length}
-use Rattle.psk.specs.Rows.{lead, frame, row-written}
+use Rattle.psk.specs.Written.{written}
+use Rattle.psk.proofs.WrittenLaws.{written-length}
+use Rattle.psk.proofs.Rows.{lead, frame, row-written}
 use Rattle.psk.specs.Accepted.{Ready}
-use Rattle.psk.specs.Places.{starts-small, frames-small, row-room, ready-still, lead-ready}
+use Rattle.psk.proofs.Places.{starts-small, frames-small, row-room, ready-still, lead-ready}
 use Rattle.psk.proofs.put_row.Statement.{statement}
 use Rattle.psk.proofs.put_row.Tie as tie
 

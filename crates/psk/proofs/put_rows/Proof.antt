@@ -9,10 +9,11 @@ use lib.Ieee.{Float}
 use Rattle.level.specs.declared.Layout.{Layout}
 use Rattle.level.specs.Lengths.{rowLength}
 use Rattle.psk.specs.Symbols.{Sending, sending, inRows, rowSymbol, rowsOf}
-use Rattle.psk.specs.Written.{written, written-length, rows-none, rows-step}
-use Rattle.psk.specs.Rows.{rows-written}
+use Rattle.psk.specs.Written.{written}
+use Rattle.psk.proofs.WrittenLaws.{written-length, rows-none, rows-step}
+use Rattle.psk.proofs.Rows.{rows-written}
 use Rattle.psk.specs.Accepted.{Ready}
-use Rattle.psk.specs.Places.{ready-still}
+use Rattle.psk.proofs.Places.{ready-still}
 use Rattle.psk.proofs.put_rows.Statement.{statement}
 use Rattle.psk.proofs.put_rows.Tie as tie
 

@@ -12,7 +12,7 @@ use Rattle.level.specs.declared.Layout.{Layout}
 use Rattle.psk.specs.declared.Sent.the-variants.{Done, Refused}
 use Rattle.psk.specs.Symbols.{Sending, rowsOf}
 use Rattle.psk.specs.Send.{sendFault, sentIn, contents, SentIn}
-use Rattle.psk.specs.Accepted.{ready-of}
+use Rattle.psk.proofs.AcceptedLaws.{ready-of}
 use Rattle.psk.proofs.send.Statement.{statement}
 use Rattle.psk.proofs.send.Tie as tie
 

@@ -13,8 +13,8 @@ use Rattle.level.specs.Lengths.{rowLength}
 use Rattle.level.specs.Frames.{wrongFrames}
 use Rattle.level.specs.FramesLaws.{frames-of}
 use Rattle.psk.specs.Send.{wrongPayload, wrongDraws, wrongRows, senderFault}
-use Rattle.psk.specs.Accepted.{rows-right, rows-wrong}
-use Rattle.psk.specs.Places.{starts-small}
+use Rattle.psk.proofs.AcceptedLaws.{rows-right, rows-wrong}
+use Rattle.psk.proofs.Places.{starts-small}
 use Rattle.psk.proofs.sender_fault.Statement.{statement}
 use Rattle.psk.proofs.sender_fault.Tie as tie
 

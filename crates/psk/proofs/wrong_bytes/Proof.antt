@@ -8,7 +8,7 @@ use lib.ListN.{getD}
 use borrow.Author.Tests.{lt-leb}
 use Rattle.refusal.specs.Any.{any}
 use Rattle.refusal.specs.AnyLaws.{any-none, any-more, any-done}
-use Rattle.psk.specs.Accepted.{bytes-uncounted, bytes-bad, bytes-right}
+use Rattle.psk.proofs.AcceptedLaws.{bytes-uncounted, bytes-bad, bytes-right}
 use Rattle.psk.proofs.wrong_bytes.Statement.{statement}
 use Rattle.psk.proofs.wrong_bytes.Tie as tie
 

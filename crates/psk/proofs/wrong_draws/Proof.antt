@@ -1,10 +1,11 @@
 -- `psk::wrong_draws` meets its contract: the bytes' count and limit are those of the draws. Assumes nothing.
 use Prim.Native.Nat.{ℕ, _+_, _*_}
-use mathlib.Core.Path.{ap, _∙_}
+use mathlib.Core.Path.{sym, ap, _∙_}
 use native.Mathlib.Omega.{arith}
 use Rattle.level.specs.SizedLaws.{sized}
 use Rattle.psk.specs.Send.{wrongBytes, wrongDraws}
-use Rattle.psk.specs.Places.{draws-small}
+use Rattle.psk.proofs.AcceptedLaws.{size-is}
+use Rattle.psk.proofs.Places.{draws-small}
 use borrow.Author.Needs.{needs}
 use Rattle.psk.proofs.wrong_draws.Statement.{statement}
 use Rattle.psk.proofs.wrong_draws.Tie as tie
@@ -24,7 +25,7 @@ wrong-bytes-requires c κs = search needs
 returns : tie.Need-returns
 unfolding wrongDraws
 returns c = let s = c .before .before .before .before in
-    c .wrong-bytes .ensures ∙ ap (λ (k : ℕ). wrongBytes (s .args .l .nc * (s .args .frames + 8)) k (s .args .draws .now)) (c .before .size .ensures)
+    c .wrong-bytes .ensures ∙ ap (λ (k : ℕ). wrongBytes (s .args .l .nc * (s .args .frames + 8)) k (s .args .draws .now)) (c .before .size .ensures ∙ sym (size-is (s .args .l) (s .pre .0)))
 
 pub wrong-draws-spec : {M : Type 1} → statement M
 wrong-draws-spec =

@@ -4,7 +4,7 @@ use Prim.Native.Nat.{ℕ, _<_}
 use native.Mathlib.Omega.{arith}
 use borrow.Fn.Kinds.{In}
 use borrow.Fn.PlainCycle.{Measures, is, falls, and}
-use Rattle.trial.specs.Write.{writes-both, decimal-one, decimal-more, tenth-length}
+use Rattle.trial.proofs.WriteLaws.{writes-both, decimal-one, decimal-more, tenth-length}
 use Rattle.trial.proofs.write_decimal.Reads as write-decimal
 use Rattle.trial.proofs.write_decimal.Kinds as write-decimal-kinds
 use Rattle.trial.proofs.+write_decimal.Lts-write_decimal as write-decimal-lts

@@ -5,7 +5,7 @@ use lib.ListN.{length-take, length-drop}
 use lib.Seq.{length-take-le}
 use Rattle.trial.specs.declared.Ran.the-variants.{Rows}
 use Rattle.trial.specs.Run.{HeadIs, RunsOffers}
-use Rattle.trial.specs.AnswerLaws.{after, answer-none, answer-bad-offers, answer-rows}
+use Rattle.trial.proofs.AnswerLaws.{after, answer-none, answer-bad-offers, answer-rows}
 use borrow.Author.Needs.{needs}
 use native.Mathlib.Omega.{arith}
 use Rattle.trial.proofs.answer_tokens.Statement.{statement}

@@ -1,6 +1,6 @@
 -- `trial::candidate_of` meets its contract: "-" brings no candidate, a number brings its metric. Assumes nothing.
 use Prim.Native.Nat.{_≤_, _^_}
-use Rattle.trial.specs.RunLaws.{whole-in-float, brings-none, brings-metric}
+use Rattle.trial.proofs.RunLaws.{whole-in-float, brings-none, brings-metric}
 use native.Mathlib.Omega.{arith}
 use Rattle.trial.proofs.candidate_of.Statement.{statement}
 use Rattle.trial.proofs.candidate_of.Tie as tie

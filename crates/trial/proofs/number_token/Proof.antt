@@ -4,7 +4,7 @@ use Prim.Native.Nat.{_+_, _-_, _≤_, _^_}
 use lib.ListN.{length, drop}
 use borrow.Author.Tests.{not-true, not-false}
 use Rattle.trial.specs.Scan.{tokenIn}
-use Rattle.trial.specs.ScanLaws.{numeral, token-numeral, limited-above, limited-small, numeral-end, numeral-other, numeral-on, afterDigit-small, tokenIn-small}
+use Rattle.trial.proofs.ScanLaws.{numeral, token-numeral, limited-above, limited-small, numeral-end, numeral-other, numeral-on, afterDigit-small, tokenIn-small}
 use borrow.Author.Needs.{needs}
 use native.Mathlib.Omega.{arith}
 use Rattle.trial.proofs.number_token.Statement.{statement}

@@ -4,7 +4,7 @@ use mathlib.Core.List.{_∷_}
 use Prim.Native.Nat.{_≤_, _^_}
 use lib.ListN.{getD, drop}
 use borrow.Author.Tests.{not-true, not-false, leb-true, leb-false}
-use Rattle.trial.specs.RunLaws.{head-short, head-of, head-not-two, head-no-hold, head-no-dead, head-too-many, head-not-as-many, head-whole}
+use Rattle.trial.proofs.RunLaws.{head-short, head-of, head-not-two, head-no-hold, head-no-dead, head-too-many, head-not-as-many, head-whole}
 use borrow.Author.Needs.{needs}
 use Rattle.trial.proofs.read_head.Statement.{statement}
 use Rattle.trial.proofs.read_head.Tie as tie

@@ -9,7 +9,7 @@ use lib.Seq.{drop-cons, take-suc-set, length-take-le}
 use Rattle.trial.specs.Words.{separator, word, wordsFrom, words}
 use Rattle.trial.specs.Trial.{Token, token}
 use Rattle.trial.specs.Scan.{Skips, Ends, tokenIn, tokensIn}
-use Rattle.trial.specs.ScanLaws.{word-on, words-begin}
+use Rattle.trial.proofs.ScanLaws.{word-on, words-begin}
 use borrow.Author.Needs.{needs}
 use native.Mathlib.Omega.{arith}
 use Rattle.trial.proofs.read_tokens.Statement.{statement}

@@ -7,8 +7,8 @@ use lib.Seq.{length-take-le}
 use Rattle.trial.specs.Words.{words}
 use Rattle.trial.specs.Trial.{token}
 use Rattle.trial.specs.Scan.{tokensIn}
-use Rattle.trial.specs.Write.{prints}
-use Rattle.trial.specs.AnswerLaws.{printed-long, printed-too-many, printed-tokens}
+use Rattle.trial.proofs.WriteLaws.{prints}
+use Rattle.trial.proofs.AnswerLaws.{printed-long, printed-too-many, printed-tokens}
 use borrow.Author.Needs.{needs}
 use native.Mathlib.Omega.{arith}
 use Rattle.trial.proofs.run.Statement.{statement}

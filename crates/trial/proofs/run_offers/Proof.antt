@@ -3,7 +3,7 @@ use mathlib.Core.Path.{_≡_, refl, sym, _∙_}
 use Prim.Native.Nat.{_+_, _*_, _-_, _≤_, _<_, _^_}
 use lib.ListN.{length, getD}
 use borrow.Author.Tests.{not-true, not-false, leb-true, leb-false}
-use Rattle.trial.specs.OffersLaws.{Running, running-none, running-all, running-no-position, running-no-metric, running-more, kept-room, small-released}
+use Rattle.trial.proofs.OffersLaws.{Running, running-none, running-all, running-no-position, running-no-metric, running-more, kept-room, small-released}
 use borrow.Author.Needs.{needs}
 use native.Mathlib.Omega.{arith}
 use Rattle.trial.proofs.run_offers.Statement.{statement}

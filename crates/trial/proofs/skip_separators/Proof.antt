@@ -4,7 +4,7 @@ use Prim.Native.Nat.{_≤_, _-_}
 use lib.ListN.{length, drop}
 use borrow.Author.Tests.{not-true, not-false}
 use Rattle.trial.specs.Words.{words}
-use Rattle.trial.specs.ScanLaws.{words-skip}
+use Rattle.trial.proofs.ScanLaws.{words-skip}
 use borrow.Author.Needs.{needs}
 use native.Mathlib.Omega.{arith}
 use Rattle.trial.proofs.skip_separators.Statement.{statement}

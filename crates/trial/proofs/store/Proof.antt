@@ -1,6 +1,6 @@
 -- `trial::store` meets its contract: nothing is stored, or two numbers. Assumes nothing.
 use lib.ListN.{length-set}
-use Rattle.trial.specs.RunLaws.{whole-in-u64, stores-none, stores-release}
+use Rattle.trial.proofs.RunLaws.{whole-in-u64, stores-none, stores-release}
 use borrow.Author.Needs.{needs}
 use native.Mathlib.Omega.{arith}
 use Rattle.trial.proofs.store.Statement.{statement}

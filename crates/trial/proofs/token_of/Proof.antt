@@ -1,7 +1,7 @@
 -- `trial::token_of` meets its contract: the word is "-", or is read as a number. Assumes nothing.
 use mathlib.Core.Path.{sym, _∙_}
 use Rattle.trial.specs.Scan.{tokenIn}
-use Rattle.trial.specs.ScanLaws.{token-dash}
+use Rattle.trial.proofs.ScanLaws.{token-dash}
 use borrow.Author.Needs.{needs}
 use Rattle.trial.proofs.token_of.Statement.{statement}
 use Rattle.trial.proofs.token_of.Tie as tie

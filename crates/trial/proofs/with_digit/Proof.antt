@@ -2,7 +2,7 @@
 use Prim.Native.Nat.{_^_}
 use borrow.Author.Tests.{le-leb, lt-leb}
 use Rattle.trial.specs.Scan.{afterDigit}
-use Rattle.trial.specs.ScanLaws.{digit-bounds}
+use Rattle.trial.proofs.ScanLaws.{digit-bounds}
 use native.Mathlib.Omega.{arith}
 use Rattle.trial.proofs.with_digit.Statement.{statement}
 use Rattle.trial.proofs.with_digit.Tie as tie

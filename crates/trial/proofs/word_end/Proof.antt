@@ -6,7 +6,7 @@ use Prim.Native.Nat.{ℕ, _+_, _≤_, _<_, _-_}
 use lib.ListN.{length, getD, take, drop}
 use Rattle.trial.specs.Words.{separator, word, wordsFrom, words}
 use Rattle.trial.specs.Scan.{Ends}
-use Rattle.trial.specs.ScanLaws.{word-end, words-end, word-stop, words-stop, word-on, words-on, part-longer}
+use Rattle.trial.proofs.ScanLaws.{word-end, words-end, word-stop, words-stop, word-on, words-on, part-longer}
 use borrow.Author.Needs.{needs}
 use native.Mathlib.Omega.{arith}
 use Rattle.trial.proofs.word_end.Statement.{statement}

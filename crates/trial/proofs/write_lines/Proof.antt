@@ -2,7 +2,7 @@
 use mathlib.Core.Path.{_≡_, refl, _∙_}
 use Prim.Native.Nat.{_-_, _/_}
 use lib.ListN.{length}
-use Rattle.trial.specs.Write.{LinesLeft, lines-none, lines-more, lines-all}
+use Rattle.trial.proofs.WriteLaws.{LinesLeft, lines-none, lines-more, lines-all}
 use borrow.Author.Needs.{needs}
 use native.Mathlib.Omega.{arith}
 use Rattle.trial.proofs.write_lines.Statement.{statement}

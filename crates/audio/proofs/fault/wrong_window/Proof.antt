@@ -35,13 +35,15 @@ audio-len-requires : tie.Need-audio-len-requires
 audio-len-requires c κs = search needs
 
 returns-2 : tie.Need-returns-2
-returns-2 c = past _ _ _ _ _ (c .before .audio-len .ensures) (c .if2 .taken)
+returns-2 c = past _ _ _ _ _ (c .before .before .before .audio-len .ensures) (c .if2 .taken)
 
 add-result : tie.Need-add-result
-add-result c = omega (arith, audio-most _ (c .before .before .before .pre .0) _ (c .before .before .before .pre .1), c .before .audio-len .ensures)
+add-result c =
+    let s = c .before .before .before .before .before .before in
+    omega (arith, audio-most _ (s .pre .0) _ (s .pre .1), c .before .before .before .before .audio-len .ensures)
 
 returns-3 : tie.Need-returns-3
-returns-3 c = ends _ _ _ _ _ (c .before .audio-len .ensures) (c .before .before .if1 .left)
+returns-3 c = ends _ _ _ _ _ (c .before .before .before .before .before .audio-len .ensures) (c .before .before .before .before .before .before .if1 .left)
 
 pub wrong-window-spec : {M : Type 1} → statement M
 wrong-window-spec = tie.close (tie.spec returns audio-len-requires returns-2 add-result returns-3)

@@ -9,7 +9,7 @@ use borrow.Author.Needs.{needs}
 use Rattle.complex.specs.Lists.{filled}
 use Rattle.complex.specs.ListLaws.{filled-none, filled-step}
 use Rattle.complex.specs.Pairs.{cget}
-use Rattle.nco.specs.Rows.{filled-rest}
+use Rattle.nco.proofs.RowsLaws.{filled-rest}
 use Rattle.audio.specs.Audio.{sample}
 use Rattle.audio.specs.Parts.{interpolatedOf}
 use Rattle.audio.proofs.scatter.add_samples.Statement.{statement}

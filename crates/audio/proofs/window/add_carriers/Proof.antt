@@ -12,7 +12,7 @@ use Rattle.audio.proofs.window.add_carriers.Statement.{statement}
 use Rattle.audio.proofs.window.add_carriers.Tie as tie
 
 abbrev Inv-loop : tie.InvT-loop
-Inv-loop l frames symbols place waves h interp out₀ c₀ out c = (c ≤ l .nc) × (length out ≡ length out₀) × (out ≡ tabulate (λ i. sumBefore l frames symbols (lentWave waves place (length out₀)) c (place + i)) (length out₀))
+Inv-loop l frames symbols place waves h interp out₀ c₀ out c = (c ≤ l .nc) × (length out ≡ length out₀) × (out ≡ tabulate (λ i. sumBefore l frames symbols (lentWave waves (place .0) (length out₀)) c (place .0 + i)) (length out₀))
 
 abbrev μ-loop : tie.MeasureT-loop
 μ-loop l frames symbols place waves h interp out₀ c₀ out c = l .nc - c
@@ -35,7 +35,7 @@ loop-again c =
     let t = c .before .before .before .before .before .before .loop in
     let n = c .before .before .add-carrier in
     let made = n .ensures
-    ∙ ap (λ (w : ℕ). tabulate (λ i. carried (s .l) (s .frames) (s .symbols .now) (lentWave (s .waves .now) (s .place) w) (t .c) (s .place + i) (getD (t .out) i nan)) w) (t .inv .1) in (
+    ∙ ap (λ (w : ℕ). tabulate (λ i. carried (s .l) (s .frames) (s .symbols .now) (lentWave (s .waves .now) (s .place .0) w) (t .c) (s .place .0 + i) (getD (t .out) i nan)) w) (t .inv .1) in (
       omega arith,
       n .kept .1 .1 .1 .1 .1 .1 .1 .1 .0 ∙ t .inv .1,
       made ∙ carriers-turn _ _ _ _ _ _ _ (t .out) (t .inv .2),

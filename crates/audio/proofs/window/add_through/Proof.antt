@@ -72,8 +72,8 @@ returns c =
     let n = c .before .before .before .before .before .before .before .before .before .before .places-before .ensures in
     let first = c .before .before .before .before .before .before .before .before .before .first-reaching .ensures in
     c .before .before .add-samples .ensures
-    ∙ carrier-done (s .args .l) (s .args .frames) (s .args .symbols .now) (s .args .place) (s .args .waves .now) (s .args .c) (s .args .out .now) _ _
-    (λ i h. values-are _ _ _ _ (s .args .place) _ _ i _ (s .args .y .now) _ (taps-some _ _ _ _ _ _ (s .pre .0)) first h (c .before .before .before .before .before .before .before .carrier-points .ensures) (s .pre .1 .interpolation))
+    ∙ carrier-done (s .args .l) (s .args .frames) (s .args .symbols .now) (s .args .place .0) (s .args .waves .now) (s .args .c) (s .args .out .now) _ _
+    (λ i h. values-are _ _ _ _ (s .args .place .0) _ _ i _ (s .args .y .now) _ (taps-some _ _ _ _ _ _ (s .pre .0)) first h (c .before .before .before .before .before .before .before .carrier-points .ensures) (s .pre .1 .interpolation))
     (before-own _ _ _ _ _ _ _ (c .before .before .before .before .before .before .before .before .before .before .before .carrier-audio-len .ensures) n)
 
 pub add-through-spec : {M : Type 1} → statement M

@@ -47,7 +47,7 @@ returns : tie.Need-returns
 returns c =
     let s = c .before .before .before .before .before .before .before .before .before .before .before .before .before .before .before .before .before .before .before .before .before .before .before .args in
     c .before .before .add-carriers .ensures
-    ∙ ap (λ (w : ℕ). audioWindow (s .l) (s .frames) (s .symbols .now) (lentWave (s .waves .now) (s .place) w) (s .place) w) (c .before .before .before .before .before .before .before .before .clear .kept .0)
+    ∙ ap (λ (w : ℕ). audioWindow (s .l) (s .frames) (s .symbols .now) (lentWave (s .waves .now) (s .place .0) w) (s .place .0) w) (c .before .before .before .before .before .before .before .before .clear .kept .0)
 
 pub audio-through-spec : {M : Type 1} → statement M
 audio-through-spec =

@@ -1,0 +1,11 @@
+pub mod AcceptedLaws
+pub mod WrittenLaws
+pub mod RunningLaws
+pub mod Rows
+pub mod Places
+pub mod Numbers
+pub mod Turn
+pub mod SentStep
+pub mod Size
+pub mod RowSize
+pub mod Cases
