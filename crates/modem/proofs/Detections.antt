@@ -14,12 +14,11 @@ use Rattle.hold.specs.History.{Detection, History}
 use Rattle.hold.specs.HistoryRule.{history-rule}
 use Rattle.rx.specs.declared.State.{State}
 use Rattle.rx.specs.declared.FeedAnswer.{FeedAnswer}
-use Rattle.rx.specs.Receiver.{Receiver, Feed, fed}
+use Rattle.rx.specs.Receiver.{Receiver}
 use Rattle.rx.specs.View.{view}
 use Rattle.rx.specs.Open.{openedState}
 use Rattle.rx.specs.Feed.{Given}
 use Rattle.rx.specs.Sound.{not-wrong}
-use Rattle.rx.specs.Once.{once}
 use Rattle.modem.specs.Ideal.{accepted, verdicts, sampleRow, broughtBy, offersOf}
 use Rattle.modem.specs.Calls.{Calls, detections}
 use Rattle.modem.specs.FedAll.{fedOn, fedAll, stateOf}
@@ -55,11 +54,11 @@ module _ (l : Layout) (i : IsLayout l) (start : ℕ) (early : start ≤ 2 ^ 40) 
         released = rw (hold-open l start, place-open l start, end-open l start) at (led .released);
       }
 
-  -- "each release is the earliest of greatest metric among candidates offered strictly between release offers at positions not below the block": the detections of all the
-  -- feeds follow the history rule over the offers of the joined samples, and no other list does
-  pub detections-rule : (ds : List Detection) → History 8 (l .dead) First (offersOf l start (accepted l start gs)) ds ↔ (ds ≡ detections rs)
-  detections-rule ds = rw (follows .released) (history-rule (freshHold 8 (l .dead)) (offersOf l start (accepted l start gs)) refl (offers-number l start (accepted l start gs)) ds)
-
-  -- "A feed releases at most one": the next one too, whatever it brings
-  pub next-once : (f : Feed) → length (f .samples) ≤ 4000 → length (fed l f (view l s memory′) .released) ≤ 1
-  next-once f few = once l i s memory′ f (follows .in-order) few
+  -- the detections of all the calls follow the history rule over the offers of the joined samples, and no other list
+  -- does
+  pub released-by-rule : (ds : List Detection)
+      → History 8 (l .dead) First (offersOf l start (accepted l start gs)) ds ↔ (ds ≡ detections rs)
+  released-by-rule ds =
+      rw (follows .released)
+      (history-rule (freshHold 8 (l .dead)) (offersOf l start (accepted l start gs)) refl
+      (offers-number l start (accepted l start gs)) ds)

@@ -27,6 +27,7 @@ use Rattle.rx.specs.Conditions.{spanEnd, otherLayout, wrongBook, wrongState, wr
 use Rattle.rx.specs.Feed.{Given, sampleFault, feedFault, feedOf, feedOutcome}
 use Rattle.rx.specs.Sound.{equal-of, Sound, not-wrong}
 use Rattle.modem.specs.Ideal.{otherCall, inputFault, judgement}
+use Rattle.modem.specs.FeedsFollow.{ownFault, OwnCall}
 
 -- a layout is what its bandwidth and record choose
 pub layout-same : (l k : Layout) → IsLayout l → IsLayout k → otherCall l k ≡ false → k ≡ l
@@ -132,19 +133,8 @@ module _ (l : Layout) (i : IsLayout l) (g : Given) where
             let j : IsLayout k = is-layout (g .bandwidth) (g .rec) k c in
             rw (fault-is l k g (length memory) s (wrong-is l k i j (length memory) s w room)) (with-fault k c (inputFault l (spanEnd (s .samples)) g k) refl)
 
--- A call of the receiver's own layout never meets 17: what is left are the rows of what it is given.
-pub own-call : (l : Layout) → IsLayout l → (e : ℕ) (g : Given) → g .bandwidth ≡ l .bandwidth → g .rec ≡ l .rec
-    → judgement l e g
-    ≡ judged
-    (orElse (tableFault l (g .markers) (g .phasors))
-    (firstFault
-    ((no.TurnBook, wrongBook (g .book)) ∷
-    (no.SampleCount, wrongSamples (length (g .samples))) ∷
-    (no.SampleNumber, wrongFirst e (g .number) (length (g .samples) / 2)) ∷
-    (no.SampleSize, wrongParts (g .samples)) ∷
-    [])))
-    (answered (feedOf g))
-unfolding judgement inputFault otherCall
-own-call l i e g p q =
-    let c : chosen (g .bandwidth) (g .rec) ≡ answered l = rw (p, q) i in
+-- a call of the receiver's own layout
+pub own-call : OwnCall
+unfolding ownFault judgement inputFault otherCall
+own-call l e g c =
     rw (c, eq-eqb (l .bandwidth) (l .bandwidth) refl, eq-eqb (l .rec) (l .rec) refl)

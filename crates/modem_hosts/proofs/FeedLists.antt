@@ -9,7 +9,7 @@ use Rattle.rx.specs.Feed.{Given, outcome}
 use Rattle.modem.specs.Ideal.{verdict}
 use Rattle.modem.specs.Calls.{none, next, detections, answersOf}
 use Rattle.modem_c.specs.Calls.{codeOf, LentState, LentRelease, feedRelease, FeedCall}
-use Rattle.modem_c.specs.Series.{fed-read}
+use Rattle.modem_c.proofs.ReadBack.{fed-read}
 use Rattle.modem_hosts.specs.CallLists as list
 use Rattle.modem_hosts.specs.CallLists.{Reply, handed, handedOver, FedAs, FeedsRead}
 use Rattle.modem_hosts.proofs.Codes.{handed-refused, handed-released}

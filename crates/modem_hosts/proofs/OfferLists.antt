@@ -13,7 +13,7 @@ use Rattle.hold.specs.LoneCalls.{none, next, releasedBy, loneAnswers}
 use Rattle.hold.proofs.LoneHistory.{lone-history}
 use Rattle.modem_c.specs.Numbers.{holdNumbers, heldMetric}
 use Rattle.modem_c.specs.Calls.{codeOf, LentState, lentState, LentRelease, OfferCall}
-use Rattle.modem_c.specs.Series.{offered-read}
+use Rattle.modem_c.proofs.ReadBack.{offered-read}
 use Rattle.modem_hosts.specs.CallLists as list
 use Rattle.modem_hosts.specs.CallLists.{Reply, handed, handedOver, OfferGiven, offersSaid, holdSaid, OfferedAs, OffersRead, OffersRefused, freshNumbers, OffersHistory}
 use Rattle.modem_hosts.proofs.Codes.{handed-refused, handed-released}

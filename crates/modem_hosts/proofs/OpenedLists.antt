@@ -21,12 +21,11 @@ use Rattle.rx.specs.Conditions.{wrongBook}
 use Rattle.rx.specs.Open.{openedState, startFault, openFault, openOutcome}
 use Rattle.rx.specs.Feed.{Given}
 use Rattle.modem.specs.Follows.{OpenedAs, withoutRoom}
-use Rattle.modem.proofs.Detections.{detections-rule}
 use Rattle.modem.proofs.Refused.{all-refused}
-use Rattle.modem.proofs.Opened.{opened-as, opened-follows}
+use Rattle.modem.proofs.Opened.{opened-as, opened-follows, opened-rule}
 use Rattle.modem_c.specs.Numbers.{numbersOf, metricOf}
 use Rattle.modem_c.specs.Calls.{codeOf, LentState, lentState, LentRelease, feedRelease, lengthFault, openedInto, OpenCall, FeedCall}
-use Rattle.modem_c.specs.Series.{opened-read}
+use Rattle.modem_c.proofs.ReadBack.{opened-read}
 use Rattle.modem_hosts.specs.CallLists as list
 use Rattle.modem_hosts.specs.CallLists.{Reply, codes, FeedCalls, stateSaid, Received, NoneReceived, OpenedReceives}
 use Rattle.modem_hosts.proofs.Codes.{number-positive, Positive, judged-positive, chosen-positive, answers-zero}
@@ -119,7 +118,7 @@ module _ (hz rec start : ℕ) (lent : LentState) (o : OpenedAs hz rec start (sta
         codes-are = u .codes-are ∙ ap (map codeOf) (f .answers);
         rule =
             λ ds. rw (u .released)
-            (detections-rule (o .layout) (o .is-one) start (o .early) m room gs (stateSaid lent′) m′ (u .answers) (rw (o .state) at (u .calls)) ds);
+            (opened-rule hz rec start (stateSaid lent) m o room gs (stateSaid lent′) m′ (u .answers) (u .calls) ds);
       }
 
   none-received : (length m ≡ 2 * memoryLength (o .layout) → ⊥) → NoneReceived lent m gs lent′ m′ rs

@@ -7,6 +7,7 @@ pub mod Feed
 pub mod Open
 pub mod Local
 pub mod Numbers
+pub mod AtMostOne
 pub mod Once
 pub mod After
 pub mod Accept

@@ -11,7 +11,7 @@ use borrow.Author.Tests.{lt-leb}
 use Rattle.refusal.specs.declared.Position.{Position}
 use Rattle.complex.specs.Lists.{tabulate}
 use Rattle.level.specs.declared.Layout.{Layout}
-use Rattle.level.specs.Rows.{IsLayout}
+use Rattle.level.specs.Rows.{IsLayout, is-layout}
 use Rattle.level.specs.Sized.{Sized, sized}
 use Rattle.hold.specs.declared.Held.{Held}
 use Rattle.hold.specs.declared.Held.the-variants as held
@@ -32,6 +32,7 @@ use Rattle.rx.specs.declared.State.{State}
 use Rattle.rx.specs.Receiver.{searchFrom, Feed, fed}
 use Rattle.rx.specs.View.{view}
 use Rattle.rx.specs.Conditions.{spanEnd, wrongState}
+use Rattle.rx.specs.AtMostOne.{AtMostOne}
 use Rattle.rx.specs.Sound.{Waits, Sound, sound}
 use Rattle.rx.specs.Numbers.{endWith, placeIn, end-later-by, chiAfter, countWith, released-are, place-held, dead-long}
 
@@ -69,10 +70,10 @@ taken-close dead q block best o (Metric m) c h = go (atLeast (o .position) block
     go false = h
 
 -- offers close together release at most one
-abbrev AtMostOne : List Offer → Type 0
-AtMostOne os = (h : Hold) (q : ℕ) → Each (Close (h .dead) q) os → HeldClose (h .dead) q (h .best) → length (releases h os) ≤ 1
+abbrev ReleaseOnce : List Offer → Type 0
+ReleaseOnce os = (h : Hold) (q : ℕ) → Each (Close (h .dead) q) os → HeldClose (h .dead) q (h .best) → length (releases h os) ≤ 1
 
-module _ (o : Offer) (os : List Offer) (next : AtMostOne os) (h : Hold) (q : ℕ) (c : Each (Close (h .dead) q) (o ∷ os)) where
+module _ (o : Offer) (os : List Offer) (next : ReleaseOnce os) (h : Hold) (q : ℕ) (c : Each (Close (h .dead) q) (o ∷ os)) where
   kept-once : HeldClose (h .dead) q (h .best) → length (released (keeping h (o .position) (o .candidate) .release) (releases (keeping h (o .position) (o .candidate) .next) os)) ≤ 1
   unfolding keeping released
   kept-once w =
@@ -94,7 +95,7 @@ module _ (o : Offer) (os : List Offer) (next : AtMostOne os) (h : Hold) (q : ℕ
       go true = released-once b m v
       go false = kept-once w
 
-close-once : (os : List Offer) → AtMostOne os
+close-once : (os : List Offer) → ReleaseOnce os
 unfolding releases offered
 close-once [] h q c w = omega arith
 close-once (o ∷ os) h q c w = offered-once o os (close-once os) h q c w (h .best) w
@@ -130,7 +131,6 @@ module _ (l : Layout) (i : IsLayout l) (s : State) (memory : List Float) (f : Fe
       (each-offer (Close (s .hold .dead) (placeIn s + 4000)) (chiAfter l f (view l s memory)) (placeIn s) (countWith l s (length (f .samples))) (λ k h. (omega arith, omega arith)))
       (held-close (s .hold .dead) (placeIn s + 4000) (s .filtered .base .0) (s .search) (s .hold .best) d (omega arith) (w .waits)))
 
-  -- The feed releases at most one: every state that 17 does not refuse, every memory, every feed of at most 4,000 samples.
   pub once : wrongState l (length memory) s ≡ false → length (f .samples) ≤ 4000 → length (fed l f (view l s memory) .released) ≤ 1
   once e few = sound-once (sound l (length memory) s e .0) few
 
@@ -139,3 +139,6 @@ module _ (l : Layout) (i : IsLayout l) (s : State) (memory : List Float) (f : Fe
   pub once-released : wrongState l (length memory) s ≡ false → length (f .samples) ≤ 4000
       → released (lastReleased (fed l f (view l s memory) .released)) [] ≡ fed l f (view l s memory) .released
   once-released e few = lone-released (fed l f (view l s memory) .released) (once l i s memory f e few)
+
+pub at-most-one : AtMostOne
+at-most-one hz rec l c s memory e f few = once l (is-layout hz rec l c) s memory f e few

@@ -6,11 +6,11 @@ use Rattle.hold.specs.declared.Block.{Block}
 use Rattle.hold.specs.declared.Block.the-variants.{First, From}
 use Rattle.hold.specs.declared.Held.{Held}
 use Rattle.hold.specs.declared.Held.the-variants as held
-use Rattle.hold.specs.declared.Hold.{Hold}
 use Rattle.rx.specs.declared.SearchPlace.{SearchPlace}
 use Rattle.rx.specs.declared.SearchPlace.the-variants.{Fresh, At}
-use Rattle.rx.specs.declared.State.{State}
-use Rattle.modem_c.specs.Numbers.{narrow, placeOf, blockOf, heldOf, holdAt, stateAt, stateOf, placeNumbers, blockNumbers, heldNumbers, bestMetric, heldMetric, holdNumbers, numbersOf, metricOf}
+use Rattle.modem_c.specs.Numbers.{narrow, placeOf, blockOf, heldOf, stateAt, stateOf}
+use Rattle.modem_c.specs.Numbers.{placeNumbers, blockNumbers, heldNumbers, bestMetric, numbersOf}
+use Rattle.modem_c.specs.ReadBack.{StateRound, HoldRound}
 
 narrow-small : (x : ℕ) → x < 2 ^ 32 → narrow x ≡ x
 narrow-small x h = rw (lt-ltb x (2 ^ 32) h)
@@ -27,11 +27,17 @@ held-round : (h : Held) → heldOf (heldNumbers h .present) (heldNumbers h .posi
 held-round held.Empty = refl
 held-round (held.At p m) = refl
 
-pub hold-round : (h : Hold) → holdAt 0 (holdNumbers h) (heldMetric h) ≡ h
+pub hold-round : HoldRound
 hold-round h = rw (block-round (h .block), held-round (h .best))
 
 -- a state's bandwidth and record are each a u32
-pub state-round : (s : State) → s .bandwidth < 2 ^ 32 → s .rec < 2 ^ 32 → stateOf (numbersOf s) (metricOf s) ≡ s
+pub state-round : StateRound
 unfolding stateOf stateAt numbersOf
 state-round s h k =
-    rw (narrow-small (s .bandwidth) h, narrow-small (s .rec) k, place-round (s .search), block-round (s .hold .block), held-round (s .hold .best))
+    rw (
+      narrow-small (s .bandwidth) h,
+      narrow-small (s .rec) k,
+      place-round (s .search),
+      block-round (s .hold .block),
+      held-round (s .hold .best),
+    )
