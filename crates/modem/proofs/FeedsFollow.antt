@@ -10,7 +10,7 @@ use Rattle.level.specs.Lengths.{memoryLength}
 use Rattle.level.specs.Layout.{chosen}
 use Rattle.hold.specs.declared.Block.the-variants.{First}
 use Rattle.hold.specs.History.{Detection, History}
-use Rattle.rx.specs.declared.State.{State}
+use Rattle.state.specs.declared.State.{State}
 use Rattle.rx.specs.Open.{openedState}
 use Rattle.modem.specs.Ideal.{accepted, offersOf}
 use Rattle.modem.specs.Calls.{Session, detections}

@@ -26,7 +26,8 @@ j-after-j l markers payload draws f c w =
     rw (w .first-cell, w .second-cell, w .from-one, w .first-j, w .second-j, w .two-bits) refl
 
 pub marked : Marked
-unfolding chosen levelOf layoutOf stagger greatestStagger audioLength rowLength tabulate pointOf alphabet labelAt nearest softBit ofBits neg add sub mul div offered offeredAt due keeping releasing
+unfolding chosen levelOf layoutOf stagger greatestStagger audioLength rowLength tabulate pointOf alphabet labelAt
+    nearest softBit ofBits neg add sub mul div offered offeredAt due keeping releasing
 marked =
     record {
       n-500-4 = refl;

@@ -18,11 +18,12 @@ use Rattle.level.specs.Rows.{is-layout}
 use Rattle.dat.specs.Tables.{tableFault}
 use Rattle.hold.specs.declared.Block.the-variants.{First}
 use Rattle.hold.specs.History.{History, Detection}
-use Rattle.rx.specs.declared.State.{State}
+use Rattle.state.specs.declared.State.{State}
 use Rattle.rx.specs.declared.FeedAnswer.{FeedAnswer}
 use Rattle.rx.specs.Feed.{Given}
-use Rattle.rx.specs.Conditions.{wrongStart}
-use Rattle.rx.specs.Open.{openedState, startFault, openFault, openOutcome}
+use Rattle.state.specs.Conditions.{wrongStart}
+use Rattle.state.specs.Faults.{startFault, openFault}
+use Rattle.rx.specs.Open.{openedState, openOutcome}
 use Rattle.modem.specs.Ideal.{accepted, offersOf}
 use Rattle.modem.specs.Calls.{Calls, detections}
 use Rattle.modem.specs.Follows.{OpenedAs, Follows}
@@ -51,7 +52,8 @@ opened-as hz rec markers phasors start book s e = go (chosen hz rec) refl e
         }
 
     go : (c : Outcome Layout) → chosen hz rec ≡ c
-        → andThen c (λ l. judged (openFault l markers phasors start book) (answered (openedState l start))) ≡ answered s
+        → andThen c (λ l. judged (openFault l markers phasors start book) (answered (openedState l start)))
+        ≡ answered s
         → OpenedAs hz rec start s
     go (refused n) c v = refused-answered n s v
     go (answered l) c v = with-fault l c (openFault l markers phasors start book) refl v

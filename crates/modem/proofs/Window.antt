@@ -41,4 +41,12 @@ unfolding append part
 part-append keep f g b e n h s =
     let p : b + (e - b) + n ≡ e + n = omega arith in
     let c : Trimmed keep b (e + n) (trimmedBase keep b (e + n)) = trimmed keep b (e + n) (omega arith) in
-    rw (length-window, length-window, p, window-ext g f e n s, window-join f b e n h, window-rest f b (trimmedBase keep b (e + n)) (e + n) (c .least) (omega arith))
+    rw (
+      length-window,
+      length-window,
+      p,
+      window-ext g f e n s,
+      window-join f b e n h,
+      window-rest f b
+          (trimmedBase keep b (e + n)) (e + n) (c .least) (omega arith),
+    )

@@ -14,9 +14,9 @@ use Rattle.level.specs.Layout.{chosen}
 use Rattle.dat.specs.Tables.{tableFault}
 use Rattle.hold.specs.declared.Block.the-variants.{First}
 use Rattle.hold.specs.History.{Detection, History}
-use Rattle.rx.specs.declared.State.{State}
+use Rattle.state.specs.declared.State.{State}
 use Rattle.rx.specs.Open.{openOutcome}
-use Rattle.rx.specs.Conditions.{wrongBook, wrongSamples, wrongFirst, wrongParts}
+use Rattle.state.specs.Conditions.{wrongBook, wrongSamples, wrongNumber, wrongParts}
 use Rattle.rx.specs.Receiver.{Feed}
 use Rattle.rx.specs.Feed.{Given, feedOf}
 use Rattle.modem.specs.Ideal.{judgement, accepted, offersOf}
@@ -24,7 +24,8 @@ use Rattle.modem.specs.Calls.{Session, detections}
 use Rattle.modem.specs.Follows.{OpenedAs, Follows, AllRefused}
 
 -- ---- the opening
--- An opening that answered gave the fresh state of the layout chosen, at a start of at most 2^40. Proved as `opened-as`.
+-- An opening that answered gave the fresh state of the layout chosen, at a start of at most 2^40. Proved as
+-- `opened-as`.
 abbrev pub OpensAs : Type 0
 OpensAs =
     (hz rec : ℕ) (markers : List ℕ) (phasors : List Float) (start : ℕ) (book : List Float) (s : State)
@@ -65,7 +66,7 @@ ownFault l e g =
     (firstFault
     ((no.TurnBook, wrongBook (g .book)) ∷
     (no.SampleCount, wrongSamples (length (g .samples))) ∷
-    (no.SampleNumber, wrongFirst e (g .number) (length (g .samples) / 2)) ∷
+    (no.SampleNumber, wrongNumber e (g .number) (length (g .samples) / 2)) ∷
     (no.SampleSize, wrongParts (g .samples)) ∷
     []))
 

@@ -25,7 +25,7 @@ use Rattle.hold.specs.declared.Candidate.{Candidate}
 use Rattle.hold.specs.declared.Hold.{Hold}
 use Rattle.hold.specs.declared.Release.the-variants.{NoRelease, Released}
 use Rattle.hold.specs.Offer.{offered}
-use Rattle.rx.specs.Conditions.{tooMany}
+use Rattle.state.specs.Conditions.{tooMany}
 
 -- a number of the layout that a bandwidth and a record choose
 abbrev pub numberIn : (Layout → ℕ) → ℕ → ℕ → Outcome ℕ
@@ -45,7 +45,7 @@ four = ofBits binary64 0x4010_0000_0000_0000
 abbrev pub softOf : ℕ → Complex → Float
 softOf b step = softBit 2 (alphabet 2) b step fone
 
--- a frame of two bits a cell whose reference on carrier c is 1, and whose first two cells there are labelled 1, which is j
+-- a frame of two bits a cell whose reference on carrier c is 1, and whose first two cells there are both j
 pub record JAfterJ (l : Layout) (markers payload draws : List ℕ) (f c : ℕ) : Type 0 where
   pub two-bits : l .bps ≡ 2
   pub from-one : referencePoint l draws f c ≡ pointOf 2 0

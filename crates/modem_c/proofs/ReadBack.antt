@@ -24,10 +24,11 @@ use Rattle.hold.specs.declared.LoneAnswer.{LoneAnswer}
 use Rattle.hold.specs.declared.LoneAnswer.the-variants as lone
 use Rattle.hold.specs.Offer.{offered}
 use Rattle.hold.specs.LoneOffer.{loneFault, outcome, unlessMet, LoneOffers}
-use Rattle.rx.specs.declared.State.{State}
+use Rattle.state.specs.declared.State.{State}
 use Rattle.rx.specs.declared.FeedAnswer.{FeedAnswer}
 use Rattle.rx.specs.declared.FeedAnswer.the-variants.{Accepted, Refused}
-use Rattle.rx.specs.Open.{openedState, startFault}
+use Rattle.state.specs.Faults.{startFault}
+use Rattle.rx.specs.Open.{openedState}
 use Rattle.rx.specs.Feed.{Left}
 use Rattle.modem_c.specs.Numbers.{narrow, position, holdAt, stateAt, stateOf}
 use Rattle.modem_c.specs.Numbers.{holdNumbers, heldMetric, numbersOf, metricOf}

@@ -6,8 +6,8 @@ use Rattle.hold.specs.declared.Block.{Block}
 use Rattle.hold.specs.declared.Block.the-variants.{First, From}
 use Rattle.hold.specs.declared.Held.{Held}
 use Rattle.hold.specs.declared.Held.the-variants as held
-use Rattle.rx.specs.declared.SearchPlace.{SearchPlace}
-use Rattle.rx.specs.declared.SearchPlace.the-variants.{Fresh, At}
+use Rattle.state.specs.declared.SearchPlace.{SearchPlace}
+use Rattle.state.specs.declared.SearchPlace.the-variants.{Fresh, At}
 use Rattle.modem_c.specs.Numbers.{narrow, placeOf, blockOf, heldOf, stateAt, stateOf}
 use Rattle.modem_c.specs.Numbers.{placeNumbers, blockNumbers, heldNumbers, bestMetric, numbersOf}
 use Rattle.modem_c.specs.ReadBack.{StateRound, HoldRound}

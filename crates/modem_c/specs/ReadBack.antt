@@ -1,5 +1,4 @@
--- The numbers that a call for C leaves are read by the next one as the state, or the hold, that it came to.
--- Definitions only.
+-- What a call for C leaves is read by the next one as the state, or the hold, that it came to. Definitions only.
 use Prim.Native.Nat.{ℕ, _<_, _^_}
 use mathlib.Core.Path.{_≡_}
 use mathlib.Core.List.{List}
@@ -7,7 +6,7 @@ use lib.ListN.{length}
 use lib.Ieee.{Float}
 use Rattle.refusal.specs.Outcome.{answered}
 use Rattle.hold.specs.declared.Hold.{Hold}
-use Rattle.rx.specs.declared.State.{State}
+use Rattle.state.specs.declared.State.{State}
 use Rattle.rx.specs.Feed.{Given}
 use Rattle.modem_c.specs.Numbers.{holdAt, stateOf, holdNumbers, heldMetric, numbersOf, metricOf}
 use Rattle.modem_c.specs.Calls.{LentState, LentRelease, openedInto, OpenCall, FeedCall, OfferCall}

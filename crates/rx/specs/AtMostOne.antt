@@ -8,10 +8,10 @@ use lib.Ieee.{Float}
 use Rattle.refusal.specs.Outcome.{answered}
 use Rattle.level.specs.declared.Layout.{Layout}
 use Rattle.level.specs.Layout.{chosen}
-use Rattle.rx.specs.declared.State.{State}
+use Rattle.state.specs.declared.State.{State}
 use Rattle.rx.specs.Receiver.{Feed, fed}
 use Rattle.rx.specs.View.{view}
-use Rattle.rx.specs.Conditions.{wrongState}
+use Rattle.state.specs.Conditions.{wrongState}
 
 -- "A feed releases at most one.": of every layout, every state and memory that 17 does not refuse, reached by feeds or
 -- not, and every feed of at most 4,000 samples. Proved as `at-most-one`.

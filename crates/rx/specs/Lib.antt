@@ -1,7 +1,5 @@
 pub mod Receiver
 pub mod View
-pub mod Conditions
-pub mod Near
 pub mod Sound
 pub mod Feed
 pub mod Open

@@ -1,4 +1,5 @@
--- What a store leaves as it was, by complex numbers: a frame, its laws, and the track of another part. Assumes nothing.
+-- What a store leaves as it was, by complex numbers: a frame, its laws, and the track of another part. Assumes
+-- nothing.
 use Prim.Native.Nat.{ℕ, suc, _+_, _*_, _<_, _≤_}
 use mathlib.Core.Path.{_≡_, refl, _∙_}
 use mathlib.Core.List.{List}
@@ -30,10 +31,16 @@ pub kept-none : (m : List Float) (a e : ℕ) → Kept m m a e
 kept-none m a e = record { as-long = refl; before = λ i h. refl; after = λ i h. refl }
 
 pub kept-wider : {m q : List Float} {a e : ℕ} (x y : ℕ) → Kept m q a e → x ≤ a → e ≤ y → Kept m q x y
-kept-wider x y f xa ey = record { as-long = f .as-long; before = λ i h. f .before i (omega arith); after = λ i h. f .after i (omega arith) }
+kept-wider x y f xa ey = record {
+  as-long = f .as-long;
+  before = λ i h. f .before i (omega arith);
+  after =
+      λ i h. f .after i (omega arith);
+}
 
 -- a change in one range after one in another is one in any range that holds both
-pub kept-join : {m p q : List Float} {a e b d : ℕ} (x y : ℕ) → Kept m p a e → Kept p q b d → x ≤ a → x ≤ b → e ≤ y → d ≤ y → Kept m q x y
+pub kept-join : {m p q : List Float} {a e b d : ℕ} (x y : ℕ) → Kept m p a e → Kept p q b d → x ≤ a → x ≤ b → e ≤ y
+    → d ≤ y → Kept m q x y
 kept-join x y f g xa xb ey dy =
     record {
       as-long = g .as-long ∙ f .as-long;
@@ -42,13 +49,17 @@ kept-join x y f g xa xb ey dy =
     }
 
 -- ---- what stands beside the range
-pub complexes-before : {m q : List Float} {a e : ℕ} (off n : ℕ) → Kept m q a e → off + n ≤ a → complexes q off n ≡ complexes m off n
+pub complexes-before : {m q : List Float} {a e : ℕ} (off n : ℕ) → Kept m q a e → off + n ≤ a → complexes q off n
+    ≡ complexes m off n
 unfolding complexes
-complexes-before {m} {q} off n f h = tabulate-ext (λ k. cget q (off + k)) (λ k. cget m (off + k)) n (λ k l. f .before (off + k) (omega arith))
+complexes-before {m} {q} off n f h = tabulate-ext (λ k. cget q (off + k)) (λ k. cget m (off + k)) n
+    (λ k l. f .before (off + k) (omega arith))
 
-pub complexes-after : {m q : List Float} {a e : ℕ} (off n : ℕ) → Kept m q a e → e ≤ off → complexes q off n ≡ complexes m off n
+pub complexes-after : {m q : List Float} {a e : ℕ} (off n : ℕ) → Kept m q a e → e ≤ off → complexes q off n
+    ≡ complexes m off n
 unfolding complexes
-complexes-after {m} {q} off n f h = tabulate-ext (λ k. cget q (off + k)) (λ k. cget m (off + k)) n (λ k l. f .after (off + k) (omega arith))
+complexes-after {m} {q} off n f h = tabulate-ext (λ k. cget q (off + k)) (λ k. cget m (off + k)) n
+    (λ k l. f .after (off + k) (omega arith))
 
 -- ---- parts
 -- a part begins no earlier than the part before it ends
@@ -74,12 +85,14 @@ pub parts-join : (l : Layout) {m p q : List Float} {a e b d : ℕ} (x y : ℕ) �
 parts-join l x y f g xa xb ey dy =
     record {
       kept =
-          kept-join (x * partLength l) (y * partLength l) (f .kept) (g .kept) (mul-le-mul-right (partLength l) xa) (mul-le-mul-right (partLength l) xb)
+          kept-join (x * partLength l) (y * partLength l) (f .kept) (g .kept) (mul-le-mul-right (partLength l) xa)
+          (mul-le-mul-right (partLength l) xb)
           (mul-le-mul-right (partLength l) ey) (mul-le-mul-right (partLength l) dy);
     }
 
 -- a track that its part holds is as it was, in a part before those or after them
-pub track-before : (l : Layout) {m q : List Float} {a e : ℕ} (k : ℕ) (span : Span) → PartsKept l m q a e → k < a → span .len ≤ partLength l
+pub track-before : (l : Layout) {m q : List Float} {a e : ℕ} (k : ℕ) (span : Span) → PartsKept l m q a e → k < a
+    → span .len ≤ partLength l
     → trackIn l q k span ≡ trackIn l m k span
 unfolding trackIn
 track-before l {m} {q} {a} {e} k span f h s =

@@ -21,7 +21,8 @@ unfolding window
 getD-window f b n i d h = getD-tabulate (λ i. f (b + i)) n i d h
 
 -- rows that agree from b up to b + n
-pub window-ext {ℓ} : {A : Type ℓ} (f g : ℕ → A) (b n : ℕ) → ((i : ℕ) → b ≤ i → i < b + n → f i ≡ g i) → window f b n ≡ window g b n
+pub window-ext {ℓ} : {A : Type ℓ} (f g : ℕ → A) (b n : ℕ) → ((i : ℕ) → b ≤ i → i < b + n → f i ≡ g i) → window f b n
+    ≡ window g b n
 unfolding window
 window-ext f g b n h = tabulate-ext (λ i. f (b + i)) (λ i. g (b + i)) n (λ i l. h (b + i) (omega arith) (omega arith))
 
