@@ -1,7 +1,6 @@
 // Chi's sums at a block of positions at once (01, "Search and hold"; rx/psk.rs, `chi`): cells outside, positions
-// inside.
-// Each sum takes its terms in the order that it would take them alone; a carrier's track is copied to planes once a
-// block.
+// inside. Each sum takes its terms in the order that it would take them alone; a carrier's track is copied to planes
+// once a block.
 ghost use mathlib.Core.Path.{_≡_};
 ghost use Prim.Native.Nat.{_+_, _*_, _/_, _<_, _≤_};
 ghost use lib.ListN.{length};
@@ -145,8 +144,7 @@ fn carrier(
 }
 
 // The sums over a table of rows, one a carrier, at a block of even positions from `at` past the tracks' base on, in
-// planes
-// of zeros; zr and zi are room for a carrier's track.
+// planes of zeros; zr and zi are room for a carrier's track.
 pub fn dots(
     re: &mut [f64],
     im: &mut [f64],

@@ -1,6 +1,5 @@
 // Steps of a reading in lent scratch: their turn, their size and their noise (01, "Reading"; eq.rs, and `coherence`
-// and
-// `decode` of rx/psk.rs).
+// and `decode` of rx/psk.rs).
 ghost use mathlib.Core.Path.{_≡_};
 ghost use Prim.Native.Nat.{_+_, _*_, _<_, _≤_};
 ghost use lib.ListN.{length};

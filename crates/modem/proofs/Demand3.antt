@@ -62,17 +62,17 @@ left-keeps g (Refused f) w =
     record {
       bandwidth = ap (λ (x : State). x .bandwidth) (w .0);
       rec = ap (λ (x : State). x .rec) (w .0);
-      as-long =
-          ap (λ (x : List Float). length x) (w .1);
+      as-long = ap (λ (x : List Float). length x) (w .1);
     }
 
 keeps-join : {s s₁ s′ : State} {m m₁ m′ : List Float} → Keeps s m s₁ m₁ → Keeps s₁ m₁ s′ m′ → Keeps s m s′ m′
-keeps-join u v = record {
-  bandwidth = v .bandwidth ∙ u .bandwidth;
-  rec = v .rec ∙ u .rec;
-  as-long = v .as-long
-      ∙ u .as-long;
-}
+keeps-join u v =
+    record {
+      bandwidth = v .bandwidth ∙ u .bandwidth;
+      rec = v .rec ∙ u .rec;
+      as-long = v .as-long
+          ∙ u .as-long;
+    }
 
 calls-keep : {s s′ : State} {m m′ : List Float} {gs : List Given} {rs : List FeedAnswer} → Calls s m gs s′ m′ rs
     → Keeps s m s′ m′

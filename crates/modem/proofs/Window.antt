@@ -5,7 +5,8 @@ use mathlib.Core.List.{_++_}
 use native.Mathlib.Omega.{arith}
 use lib.ListN.{drop}
 use Rattle.complex.specs.declared.Complex.{Complex}
-use Rattle.track.specs.Window.{window, length-window, getD-window, window-ext, window-append, window-drop}
+use Rattle.track.specs.Window.{window}
+use Rattle.track.specs.WindowLaws.{length-window, getD-window, window-ext, window-append, window-drop}
 use Rattle.track.specs.Track.{endOf, valueAt, trimmedBase, append}
 use Rattle.track.specs.Values.{value-from}
 use Rattle.track.specs.Trims.{Trimmed, trimmed}

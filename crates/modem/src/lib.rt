@@ -158,8 +158,7 @@ fn read_last(
 }
 
 // Opens a receiver, feeds it twice, each time with other tables and another turn book, and reads at the last release
-// with the
-// second feed's tables: calls make such sessions as demand 3 speaks of.
+// with the second feed's tables: calls make such sessions as demand 3 speaks of.
 pub fn open_feed_read(
     bandwidth: u32,
     rec: u32,

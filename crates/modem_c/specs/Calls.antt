@@ -166,7 +166,7 @@ pub record FeedCall (g : Given) (lent : LentState) (memory : List Float) (releas
   pub release-is : release′ ≡ after (feedRelease answer) (λ r. releaseAfter r release) release
 
 -- ---- a lone offer
--- "with a candidate's metric where has_metric isn't 0"
+-- dimpstea.h: "with a candidate's metric where has_metric isn't 0"
 abbrev pub candidateOf : ℕ → Float → Candidate
 candidateOf has m = cond (eqb has 0) NoCandidate (Metric m)
 

@@ -19,8 +19,8 @@ use Rattle.state.specs.declared.State.{State}
 use Rattle.modem_c.specs.declared.numbers.Optional.{Optional}
 
 -- ---- a layout
--- "carriers, symbols of a frame (spf), markers of a carrier, bits of a cell, nsym, payload bits n, taps, first carrier
--- and spacing in Hz, delay, greatest stagger, keep, dead"
+-- dimpstea.h: "carriers, symbols of a frame (spf), markers of a carrier, bits of a cell, nsym, payload bits n, taps,
+-- first carrier and spacing in Hz, delay, greatest stagger, keep, dead"
 abbrev pub layoutNumbers : Layout → List ℕ
 layoutNumbers l =
     l .nc ∷ l .spf ∷ l .markers ∷ l .bps ∷ l .nsym ∷ l .n ∷ l .taps ∷ l .«first_hz» ∷ l .«spacing_hz»
@@ -35,7 +35,7 @@ narrow x = cond (ltb x (2 ^ 32)) x 0
 abbrev pub position : ℕ → Position
 position p = record { 0 = p }
 
--- where the search goes on: "Any number but 0 in 11, 15 or 17 counts as 1."
+-- where the search goes on; dimpstea.h: "Any number but 0 in 11, 15 or 17 counts as 1."
 abbrev pub placeOf : ℕ → ℕ → SearchPlace
 placeOf present p = cond (eqb present 0) Fresh (At (position p))
 
@@ -81,7 +81,7 @@ unfoldable pub stateOf : List ℕ → Float → State
 stateOf ns m = cond (eqb (length ns) 19) (stateAt ns m) (stateAt [] m)
 
 -- ---- to numbers
--- "What is absent is stored as 0"
+-- dimpstea.h: "What is absent is stored as 0"
 abbrev pub absent : Optional
 absent = record { present = 0; position = 0 }
 

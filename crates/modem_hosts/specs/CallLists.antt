@@ -38,8 +38,8 @@ pub record Reply : Type 0 where
 abbrev pub codes : List Reply → List ℕ
 codes rs = map (λ r. r .code) rs
 
--- "*released is 1 where a detection was released, whose position and metric are then written": read only where the
--- call answered 0
+-- dimpstea.h: "*released is 1 where a detection was released, whose position and metric are then written"; read only
+-- where the call answered 0
 abbrev pub handed : Reply → List Detection → List Detection
 handed r ds =
     cond (eqb (r .code) 0 && not (eqb (r .release .released) 0))

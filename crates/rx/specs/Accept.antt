@@ -14,7 +14,7 @@ use Rattle.level.specs.Sized.{sized}
 use Rattle.track.specs.declared.Span.{Span}
 use Rattle.track.specs.Track.{Track, valueAt}
 use Rattle.track.specs.Memory.{partLength, samplesPart, filteredPart, stepPart, powerPart, trackIn}
-use Rattle.track.specs.Kept.{track-before, track-after}
+use Rattle.track.specs.KeptLaws.{track-before, track-after}
 use Rattle.track.specs.Append.{Appended}
 use Rattle.track.specs.Trims.{span-short}
 use Rattle.filter.specs.declared.Spans.{Spans}

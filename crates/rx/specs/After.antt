@@ -114,13 +114,13 @@ module _ (dead : ℕ) (h : Hold) (o : Offer) (r : Ready dead (o .position .0) h)
     running = running-held (h .best) refl (r .before)
 
 ready-on : (dead q : ℕ) (h : Hold) → Running dead q h → Ready dead (q + 2) h
-ready-on dead q h r = record {
-  hold-is = r .hold-is;
-  dead-is = r .dead-is;
-  before = go (h .best) (r .since);
-  near =
-      r .near;
-}
+ready-on dead q h r =
+    record {
+      hold-is = r .hold-is;
+      dead-is = r .dead-is;
+      before = go (h .best) (r .since);
+      near = r .near;
+    }
   where
     go : (best : Held) → Since q best → Before (q + 2) best
     go held.Empty w = tt

@@ -76,8 +76,7 @@ pub record AcceptedBy (l : Layout) (t : Tables) (book new : List Float) (s : Sta
       offered
   pub result : r ≡ record {
     state = stateAfter s samples spans offered (placeIn s) (countWith l s count);
-    answer =
-        Accepted (offered .release);
+    answer = Accepted (offered .release);
   }
 
 pub accepted : (l : Layout) (t : Tables) (book new : List Float) (s : State) (m m₂ : List Float) (r : Tracks)

@@ -12,7 +12,8 @@ use Rattle.complex.specs.Pairs.{complexes-length}
 use Rattle.level.specs.declared.Layout.{Layout}
 use Rattle.level.specs.Sized.{Sized}
 use Rattle.track.specs.declared.Span.{Span}
-use Rattle.track.specs.Window.{window, length-window}
+use Rattle.track.specs.Window.{window}
+use Rattle.track.specs.WindowLaws.{length-window}
 use Rattle.track.specs.Track.{Track, endOf, trimmedBase, append}
 use Rattle.track.specs.Trims.{Trimmed, trimmed, base-kept}
 use Rattle.track.specs.Memory.{filteredPart, stepPart, powerPart, trackIn}

@@ -30,8 +30,7 @@ abbrev pub filteredSymbol : Layout → (ℕ → ℕ → Complex) → ℕ → ℕ
 filteredSymbol l filtered p c k = filtered c (symbolPosition l p c k)
 
 -- or the samples turned by the drift rows ("`rot` with drift, and cosine and sine of carrier phases: lent rows.") and
--- filtered:
--- entry i of a row is for sample p − delay − 1 + i
+-- filtered: entry i of a row is for sample p − delay − 1 + i
 unfoldable pub driftSymbol : Layout → List Float → (ℕ → Complex) → ℕ → ℕ → ℕ → Complex
 driftSymbol l drift samples p c k =
     sumTo
