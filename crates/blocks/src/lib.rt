@@ -1,12 +1,14 @@
-// Chi's sums at a block of positions at once (01, "Search and hold"; rx/psk.rs, `chi`): cells outside, positions inside.
-// Each sum takes its terms in the order that it would take them alone; a carrier's track is copied to planes once a block.
+// Chi's sums at a block of positions at once (01, "Search and hold"; rx/psk.rs, `chi`): cells outside, positions
+// inside. Each sum takes its terms in the order that it would take them alone; a carrier's track is copied to planes
+// once a block.
 ghost use mathlib.Core.Path.{_≡_};
 ghost use Prim.Native.Nat.{_+_, _*_, _/_, _<_, _≤_};
 ghost use lib.ListN.{length};
 ghost use Rattle.complex.specs.Arithmetic.{cadd, cmul};
 ghost use Rattle.complex.specs.Pairs.{cget};
 ghost use Rattle.chi.specs.Dot.{dotTerm};
-ghost use Rattle.blocks.specs.Planes.{pget, Planes, Added, Zeros, Dots, planeTerm, CellsFit, CarrierFits, RowsFit};
+ghost use Rattle.blocks.specs.Planes.{pget, Planes, Added, Zeros, Dots, planeTerm, CellsFit, CarrierFits};
+ghost use Rattle.blocks.specs.Planes.{RowsFit};
 use complex::Complex;
 
 // The number at place k of two planes.
@@ -30,8 +32,11 @@ fn accumulate(acc: Complex, zr: &[f64], zi: &[f64], at: usize, q: Complex) -> Co
 
 // Adds to each sum of a block its term of one cell.
 fn one_cell(re: &mut [f64], im: &mut [f64], zr: &[f64], zi: &[f64], a: usize, p: Complex)
-    requires { ⌜ (length (now im) ≡ length (now re)) × (a + length (now re) ≤ length (now zr)) × (a + length (now re) ≤ length (now zi)) ⌝ }
-    ensures { λ _. ⌜ Planes (λ j. cadd (pget (now (re .entry)) (now (im .entry)) j) (cmul (pget (now (zr .entry)) (now (zi .entry)) (a + j)) p)) (length (now (re .entry))) (now (re .entry)) (now (im .entry)) (now (re .exit)) (now (im .exit)) ⌝ }
+    requires { ⌜ (length (now im) ≡ length (now re)) × (a + length (now re) ≤ length (now zr))
+        × (a + length (now re) ≤ length (now zi)) ⌝ }
+    ensures { λ _. ⌜ Planes (λ j. cadd (pget (now (re .entry)) (now (im .entry)) j)
+        (cmul (pget (now (zr .entry)) (now (zi .entry)) (a + j)) p)) (length (now (re .entry))) (now (re .entry))
+        (now (im .entry)) (now (re .exit)) (now (im .exit)) ⌝ }
 {
     let mut j = 0;
     while j < re.len() {
@@ -53,8 +58,13 @@ fn two_cells(
     b: usize,
     q: Complex,
 )
-    requires { ⌜ (length (now im) ≡ length (now re)) × (a + length (now re) ≤ length (now zr)) × (a + length (now re) ≤ length (now zi)) × (b + length (now re) ≤ length (now zr)) × (b + length (now re) ≤ length (now zi)) ⌝ }
-    ensures { λ _. ⌜ Planes (λ j. cadd (cadd (pget (now (re .entry)) (now (im .entry)) j) (cmul (pget (now (zr .entry)) (now (zi .entry)) (a + j)) p)) (cmul (pget (now (zr .entry)) (now (zi .entry)) (b + j)) q)) (length (now (re .entry))) (now (re .entry)) (now (im .entry)) (now (re .exit)) (now (im .exit)) ⌝ }
+    requires { ⌜ (length (now im) ≡ length (now re)) × (a + length (now re) ≤ length (now zr))
+        × (a + length (now re) ≤ length (now zi)) × (b + length (now re) ≤ length (now zr))
+        × (b + length (now re) ≤ length (now zi)) ⌝ }
+    ensures { λ _. ⌜ Planes (λ j. cadd (cadd (pget (now (re .entry)) (now (im .entry)) j)
+        (cmul (pget (now (zr .entry)) (now (zi .entry)) (a + j)) p))
+        (cmul (pget (now (zr .entry)) (now (zi .entry)) (b + j)) q)) (length (now (re .entry))) (now (re .entry))
+        (now (im .entry)) (now (re .exit)) (now (im .exit)) ⌝ }
 {
     let mut j = 0;
     while j < re.len() {
@@ -69,7 +79,8 @@ fn two_cells(
 // Every other number of the memory, n of them from place `from` on, as two planes. Nothing else here reads the memory.
 fn planes(zr: &mut [f64], zi: &mut [f64], memory: &[f64], from: usize, n: usize)
     requires { ⌜ (n ≤ length (now zr)) × (n ≤ length (now zi)) × (2 * (from + 2 * n) ≤ length (now memory) + 2) ⌝ }
-    ensures { λ _. ⌜ Planes (λ i. cget (now (memory .entry)) (from + 2 * i)) n (now (zr .entry)) (now (zi .entry)) (now (zr .exit)) (now (zi .exit)) ⌝ }
+    ensures { λ _. ⌜ Planes (λ i. cget (now (memory .entry)) (from + 2 * i)) n (now (zr .entry)) (now (zi .entry))
+        (now (zr .exit)) (now (zi .exit)) ⌝ }
 {
     let mut i = 0;
     while i < n {
@@ -82,8 +93,10 @@ fn planes(zr: &mut [f64], zi: &mut [f64], memory: &[f64], from: usize, n: usize)
 
 // Adds to each sum of a block its terms of a carrier's cells, in their order, two a pass.
 fn cells(re: &mut [f64], im: &mut [f64], zr: &[f64], zi: &[f64], offs: &[usize], refs: &[f64])
-    requires { ⌜ (length (now im) ≡ length (now re)) × CellsFit (length (now re)) (length (now zr)) (length (now zi)) (now offs) (length (now refs)) ⌝ }
-    ensures { λ _. ⌜ Added (planeTerm (now (zr .entry)) (now (zi .entry)) (now (offs .entry)) (now (refs .entry))) (length (now (offs .entry))) (now (re .entry)) (now (im .entry)) (now (re .exit)) (now (im .exit)) ⌝ }
+    requires { ⌜ (length (now im) ≡ length (now re)) × CellsFit (length (now re)) (length (now zr)) (length (now zi))
+        (now offs) (length (now refs)) ⌝ }
+    ensures { λ _. ⌜ Added (planeTerm (now (zr .entry)) (now (zi .entry)) (now (offs .entry)) (now (refs .entry)))
+        (length (now (offs .entry))) (now (re .entry)) (now (im .entry)) (now (re .exit)) (now (im .exit)) ⌝ }
 {
     let first = offs[0];
     let mut k = 0;
@@ -119,8 +132,10 @@ fn carrier(
     zr: &mut [f64],
     zi: &mut [f64],
 )
-    requires { ⌜ (length (now im) ≡ length (now re)) × CarrierFits (length (now memory)) (length (now re)) (now offs) (length (now refs)) at (length (now zr)) (length (now zi)) ⌝ }
-    ensures { λ _. ⌜ Added (λ j. dotTerm (now (memory .entry)) (now (offs .entry)) (now (refs .entry)) (at + 2 * j)) (length (now (offs .entry))) (now (re .entry)) (now (im .entry)) (now (re .exit)) (now (im .exit)) ⌝ }
+    requires { ⌜ (length (now im) ≡ length (now re)) × CarrierFits (length (now memory)) (length (now re)) (now offs)
+        (length (now refs)) at (length (now zr)) (length (now zi)) ⌝ }
+    ensures { λ _. ⌜ Added (λ j. dotTerm (now (memory .entry)) (now (offs .entry)) (now (refs .entry)) (at + 2 * j))
+        (length (now (offs .entry))) (now (re .entry)) (now (im .entry)) (now (re .exit)) (now (im .exit)) ⌝ }
 {
     let first = offs[0];
     let n = (offs[offs.len() - 1] - first) / 2 + re.len();
@@ -128,8 +143,8 @@ fn carrier(
     cells(re, im, zr, zi, offs, refs);
 }
 
-// The sums over a table of rows, one a carrier, at a block of even positions from `at` past the tracks' base on, in planes
-// of zeros; zr and zi are room for a carrier's track.
+// The sums over a table of rows, one a carrier, at a block of even positions from `at` past the tracks' base on, in
+// planes of zeros; zr and zi are room for a carrier's track.
 pub fn dots(
     re: &mut [f64],
     im: &mut [f64],
@@ -141,8 +156,11 @@ pub fn dots(
     zr: &mut [f64],
     zi: &mut [f64],
 )
-    requires { ⌜ (length (now im) ≡ length (now re)) × Zeros (now re) (now im) × RowsFit (length (now memory)) (length (now re)) (now offs) (length (now refs)) carriers (length (now offs) / carriers) at (length (now zr)) (length (now zi)) ⌝ }
-    ensures { λ _. ⌜ Dots (now (memory .entry)) (now (offs .entry)) (now (refs .entry)) at (now (re .exit)) (now (im .exit)) ⌝ }
+    requires { ⌜ (length (now im) ≡ length (now re)) × Zeros (now re) (now im)
+        × RowsFit (length (now memory)) (length (now re)) (now offs) (length (now refs)) carriers
+        (length (now offs) / carriers) at (length (now zr)) (length (now zi)) ⌝ }
+    ensures { λ _. ⌜ Dots (now (memory .entry)) (now (offs .entry)) (now (refs .entry)) at (now (re .exit))
+        (now (im .exit)) ⌝ }
 {
     let per = offs.len() / carriers;
     let mut c = 0;

@@ -14,14 +14,17 @@ pub each-append : {A : Type 0} (P : A → Type 0) (xs ys : List A) → Each P xs
 each-append P [] ys u v = v
 each-append P (x ∷ xs) ys u v = (u .0, each-append P xs ys (u .1) v)
 
-pub each-map : {A B : Type 0} (P : A → Type 0) (Q : B → Type 0) (f : A → B) → ((x : A) → P x → Q (f x)) → (xs : List A) → Each P xs → Each Q (map f xs)
+pub each-map : {A B : Type 0} (P : A → Type 0) (Q : B → Type 0) (f : A → B) → ((x : A) → P x → Q (f x))
+    → (xs : List A) → Each P xs → Each Q (map f xs)
 each-map P Q f h [] u = tt
 each-map P Q f h (x ∷ xs) u = (h x (u .0), each-map P Q f h xs (u .1))
 
-pub each-tabulate : {A : Type 0} (P : A → Type 0) (f : ℕ → A) (n : ℕ) → ((k : ℕ) → k < n → P (f k)) → Each P (tabulate f n)
+pub each-tabulate : {A : Type 0} (P : A → Type 0) (f : ℕ → A) (n : ℕ) → ((k : ℕ) → k < n → P (f k))
+    → Each P (tabulate f n)
 unfolding tabulate
 each-tabulate P f zero h = tt
-each-tabulate P f (suc n) h = each-append P (tabulate f n) (f n ∷ []) (each-tabulate P f n (λ k l. h k (omega arith))) (h n (omega arith), tt)
+each-tabulate P f (suc n) h = each-append P (tabulate f n) (f n ∷ []) (each-tabulate P f n (λ k l. h k (omega arith)))
+    (h n (omega arith), tt)
 
 pub each-at : {A : Type 0} (P : A → Type 0) (xs : List A) (k : ℕ) (d : A) → Each P xs → k < length xs → P (getD xs k d)
 each-at P [] k d u h = absurd (omega arith)

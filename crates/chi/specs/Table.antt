@@ -1,4 +1,4 @@
--- The tables of chi's two sums (rx/psk.rs, `new` and `chi`): for each cell its place in the memory and its reference. Definitions only.
+-- The tables of chi's two sums (rx/psk.rs, `new` and `chi`): each cell's place and reference. Definitions only.
 use Prim.Native.Nat.{ℕ, _+_, _*_, _≤_, _<_}
 use mathlib.Core.Path.{_≡_}
 use mathlib.Core.List.{List, map}
@@ -35,7 +35,8 @@ abbrev pub partOf : Sum → ℕ → ℕ
 partOf Pilot c = stepPart c
 partOf Data c = powerPart c
 
--- where a cell of a frame at the tracks' base stands in the memory: its carrier's part, and there 32 positions a symbol, behind the stagger
+-- where a cell of a frame at the tracks' base stands in the memory: its carrier's part, and there 32 positions a
+-- symbol, behind the stagger
 abbrev pub placeOf : Sum → Layout → Cell → ℕ
 placeOf sum l x = partOf sum (x .carrier) * partLength l + (stagger (l .nc) (x .carrier) + 32 * x .symbol)
 
@@ -48,12 +49,14 @@ abbrev pub referenceIn : Sum → Layout → List Float → Cell → Complex
 referenceIn sum l phasors x = referenceFor sum l phasors (x .carrier) (x .symbol)
 
 -- a carrier's row of a sum's two tables
-pub record RowTabled (sum : Sum) (l : Layout) (markers : List ℕ) (phasors : List Float) (c : ℕ) (offs : List ℕ) (refs : List Float) : Type 0 where
+pub record RowTabled (sum : Sum) (l : Layout) (markers : List ℕ) (phasors : List Float) (c : ℕ) (offs : List ℕ)
+    (refs : List Float) : Type 0 where
   pub places : offs ≡ map (λ s. placeOf sum l (cellAt c s)) (symbolsOf sum l markers c)
   pub references : refs ≡ parts (map (referenceFor sum l phasors c) (symbolsOf sum l markers c))
 
 -- a sum's two tables: entry k of each belongs to its cell k
-pub record Tabled (sum : Sum) (l : Layout) (markers : List ℕ) (phasors : List Float) (offs : List ℕ) (refs : List Float) : Type 0 where
+pub record Tabled (sum : Sum) (l : Layout) (markers : List ℕ) (phasors : List Float) (offs : List ℕ)
+    (refs : List Float) : Type 0 where
   pub places : offs ≡ map (placeOf sum l) (cellsIn sum l markers)
   pub references : refs ≡ parts (map (referenceIn sum l phasors) (cellsIn sum l markers))
 

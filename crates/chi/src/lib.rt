@@ -1,4 +1,5 @@
-// The tables and the sums of chi (01, "Search and hold"; rx/psk.rs): where each cell is read in the memory, and what its value is multiplied by.
+// The tables and the sums of chi (01, "Search and hold"; rx/psk.rs): where each cell is read in the memory, and what
+// its value is multiplied by.
 ghost use mathlib.Core.Path.{_≡_};
 ghost use mathlib.Core.List.{map};
 ghost use Prim.Native.Nat.{_+_, _*_, _<_, _≤_};
@@ -8,7 +9,8 @@ ghost use Rattle.complex.specs.Pairs.{cget, parts};
 ghost use Rattle.level.specs.Rows.{IsLayout};
 ghost use Rattle.dat.specs.Cells.{cellAt};
 ghost use Rattle.dat.specs.Accepted.{Markers, Phasors};
-ghost use Rattle.chi.specs.Table.{perCarrier, symbolsOf, partOf, placeOf, referenceFor, Row, RowTabled, RowFits, Tabled, TableFits};
+ghost use Rattle.chi.specs.Table.{perCarrier, symbolsOf, partOf, placeOf, referenceFor, Row, RowTabled};
+ghost use Rattle.chi.specs.Table.{RowFits, Tabled, TableFits};
 ghost use Rattle.chi.specs.Dot.{dotAt, DotFits};
 use complex::Complex;
 use level::Layout;
@@ -87,7 +89,8 @@ fn places(l: Layout, sum: Sum, c: usize, symbols: &[usize], out: &mut [usize])
 // The references of a row of symbols of carrier c.
 fn references(l: Layout, phasors: &[f64], sum: Sum, c: usize, symbols: &[usize], out: &mut [f64])
     requires { ⌜ Phasors l (now phasors) × Row l c (now symbols) × (length (now out) ≡ 2 * length (now symbols)) ⌝ }
-    ensures { λ _. ⌜ now (out .exit) ≡ parts (map (referenceFor sum l (now (phasors .entry)) c) (now (symbols .entry))) ⌝ }
+    ensures { λ _. ⌜ now (out .exit) ≡ parts (map (referenceFor sum l (now (phasors .entry)) c)
+        (now (symbols .entry))) ⌝ }
 {
     let mut k = 0;
     while k < symbols.len() {
@@ -107,8 +110,10 @@ fn row_through(
     offs: &mut [usize],
     refs: &mut [f64],
 )
-    requires { ⌜ RowFits sum l (now markers) (now phasors) c (length (now offs)) (length (now refs)) × (length (now room) ≡ perCarrier sum l) ⌝ }
-    ensures { λ _. ⌜ RowTabled sum l (now (markers .entry)) (now (phasors .entry)) c (now (offs .exit)) (now (refs .exit)) ⌝ }
+    requires { ⌜ RowFits sum l (now markers) (now phasors) c (length (now offs)) (length (now refs))
+        × (length (now room) ≡ perCarrier sum l) ⌝ }
+    ensures { λ _. ⌜ RowTabled sum l (now (markers .entry)) (now (phasors .entry)) c (now (offs .exit))
+        (now (refs .exit)) ⌝ }
 {
     symbols(l, markers, sum, c, room);
     places(l, sum, c, room, offs);
@@ -126,7 +131,8 @@ fn row(
     refs: &mut [f64],
 )
     requires { ⌜ RowFits sum l (now markers) (now phasors) c (length (now offs)) (length (now refs)) ⌝ }
-    ensures { λ _. ⌜ RowTabled sum l (now (markers .entry)) (now (phasors .entry)) c (now (offs .exit)) (now (refs .exit)) ⌝ }
+    ensures { λ _. ⌜ RowTabled sum l (now (markers .entry)) (now (phasors .entry)) c (now (offs .exit))
+        (now (refs .exit)) ⌝ }
 {
     let n = offs.len();
     let mut room = [0usize; 450];
@@ -143,7 +149,8 @@ pub fn table(
     refs: &mut [f64],
 )
     requires { ⌜ TableFits sum l (now markers) (now phasors) (length (now offs)) (length (now refs)) ⌝ }
-    ensures { λ _. ⌜ Tabled sum l (now (markers .entry)) (now (phasors .entry)) (now (offs .exit)) (now (refs .exit)) ⌝ }
+    ensures { λ _. ⌜ Tabled sum l (now (markers .entry)) (now (phasors .entry)) (now (offs .exit))
+        (now (refs .exit)) ⌝ }
 {
     let n = per_carrier(l, sum);
     let mut c = 0;

@@ -1,5 +1,5 @@
-// Steps of a reading in lent scratch: their turn, their size and their noise (01, "Reading"; eq.rs, and `coherence` and
-// `decode` of rx/psk.rs).
+// Steps of a reading in lent scratch: their turn, their size and their noise (01, "Reading"; eq.rs, and `coherence`
+// and `decode` of rx/psk.rs).
 ghost use mathlib.Core.Path.{_≡_};
 ghost use Prim.Native.Nat.{_+_, _*_, _<_, _≤_};
 ghost use lib.ListN.{length};
@@ -64,7 +64,8 @@ fn packed(z: &[f64], nc: usize, nsym: usize, r: Complex, k: usize) -> Complex
     complex::zero()
 }
 
-// Symbols packed by carrier become steps packed by carrier, in place: each is made from places that aren't written yet.
+// Symbols packed by carrier become steps packed by carrier, in place: each is made from places that aren't written
+// yet.
 pub fn pack_steps(z: &mut [f64], nc: usize, nsym: usize, r: Complex)
     requires { ⌜ Packed nc nsym (length (now z)) ⌝ }
     ensures { λ _. ⌜ now (z .exit) ≡ steppedOf (now (z .entry)) nc nsym r ⌝ }

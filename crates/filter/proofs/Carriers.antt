@@ -20,7 +20,7 @@ use Rattle.track.specs.declared.Span.{Span}
 use Rattle.track.specs.Window.{window}
 use Rattle.track.specs.Track.{Track, append}
 use Rattle.track.specs.Memory.{partLength, samplesPart, filteredPart, stepPart, powerPart, trackIn}
-use Rattle.track.specs.Kept.{track-before, track-after, parts-none, parts-join}
+use Rattle.track.specs.KeptLaws.{track-before, track-after, parts-none, parts-join}
 use Rattle.track.specs.Append.{spanEnd, spanAfter}
 use Rattle.track.specs.Trims.{span-trimmed, span-end, span-short, span-none, append-none}
 use Rattle.filter.specs.declared.Spans.{Spans}

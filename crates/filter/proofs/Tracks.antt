@@ -16,7 +16,7 @@ use Rattle.track.specs.declared.Span.{Span}
 use Rattle.track.specs.Window.{window}
 use Rattle.track.specs.Track.{Track, valueAt, append}
 use Rattle.track.specs.Memory.{partLength, samplesPart, filteredPart, stepPart, powerPart, trackIn}
-use Rattle.track.specs.Kept.{part-within, track-before, track-after, parts-join}
+use Rattle.track.specs.KeptLaws.{part-within, track-before, track-after, parts-join}
 use Rattle.track.specs.Append.{spanAfter, AppendFits, Appended}
 use Rattle.track.specs.Trims.{span-short}
 use Rattle.filter.specs.Filter.{filteredAt, stepAt, powerOf}

@@ -1,4 +1,4 @@
--- A carrier's steps of the work, as the code cuts it: turn, sum over the taps, step, and the tracks they are appended to. Definitions only.
+-- A carrier's part of the work: turn, sum over the taps, step, and the tracks appended to. Definitions only.
 use Prim.Native.Nat.{ℕ, suc, _+_, _-_, _*_, _^_, _<_, _≤_}
 use mathlib.Core.Path.{_≡_}
 use mathlib.Core.Bool.{cond}
@@ -23,7 +23,8 @@ use Rattle.track.specs.Append.{spanEnd, spanAfter}
 use Rattle.filter.specs.declared.Spans.{Spans}
 use Rattle.filter.specs.declared.Four.{Four}
 use Rattle.filter.specs.Filter.{turnAt}
-use Rattle.filter.specs.Filtered.{filteredAfter, stepsAfter, powersAfter, spansAfter, FilterFits, CarrierFiltered}
+use Rattle.filter.specs.Filtered.{filteredAfter, stepsAfter, powersAfter, spansAfter, FilterFits}
+use Rattle.filter.specs.Filtered.{CarrierFiltered}
 
 -- the k-th sample from place `from` on, whose first is number `first`, turned
 unfoldable pub turned : List Float → List Float → ℕ → ℕ → ℕ → ℕ → Complex
@@ -43,7 +44,8 @@ fourOf f i = record { first = f i; second = f (i + 1); third = f (i + 2); fourth
 
 -- the step at a place of the track that starts at place `at`
 unfoldable pub stepOf : List Float → ℕ → ℕ → Complex
-stepOf memory at place = cond (leb 32 place) (unitOf (cmul (cget memory (at + place)) (cconj (cget memory (at + (place - 32)))))) czero
+stepOf memory at place =
+    cond (leb 32 place) (unitOf (cmul (cget memory (at + place)) (cconj (cget memory (at + (place - 32)))))) czero
 
 -- the receiver's taps of a layout at the start of a list
 pub record IsTaps (l : Layout) (taps : List Float) : Type 0 where
@@ -51,16 +53,20 @@ pub record IsTaps (l : Layout) (taps : List Float) : Type 0 where
   pub values : (j : ℕ) → j < l .taps → getD taps j nan ≡ receiverTap (pulseOf (l .taps)) j
 
 -- n > 0 values, from position e on, for carrier c
-pub record CarrierFits (l : Layout) (room book : ℕ) (taps : List Float) (samples : Span) (spans : Spans) (e n c : ℕ) : Type 0 where
+pub record CarrierFits (l : Layout) (room book : ℕ) (taps : List Float) (samples : Span) (spans : Spans)
+    (e n c : ℕ) : Type 0 where
   pub fits : FilterFits l room book samples spans e n
   pub taps-are : IsTaps l taps
   pub some : 0 < n
   pub carrier : c < l .nc
 
 -- the filtered track of carrier c, in memory m before and in memory q after
-pub record FilteredMade (l : Layout) (book m q : List Float) (samples before : Span) (e n c : ℕ) (after : Span) : Type 0 where
+pub record FilteredMade (l : Layout) (book m q : List Float) (samples before : Span) (e n c : ℕ) (after : Span)
+    : Type 0 where
   pub span : after ≡ spanAfter (l .keep) before n
-  pub track : trackIn l q (filteredPart c) after ≡ filteredAfter l book (trackIn l m samplesPart samples) e n c (trackIn l m (filteredPart c) before)
+  pub track :
+      trackIn l q (filteredPart c) after
+      ≡ filteredAfter l book (trackIn l m samplesPart samples) e n c (trackIn l m (filteredPart c) before)
   pub others : PartsKept l m q (filteredPart c) (suc (filteredPart c))
 
 -- n steps, from position e on, for the tracks of carrier c, whose filtered track ends at e + n
@@ -87,13 +93,18 @@ pub record StepsMade (l : Layout) (m q : List Float) (filtered step power : Span
   pub others : PartsKept l m q (stepPart c) (suc (powerPart c))
 
 -- carrier c's three tracks
-pub record CarrierMade (l : Layout) (book m q : List Float) (samples : Span) (before : Spans) (e n c : ℕ) : Type 0 where
-  pub carrier : CarrierFiltered l book m q (trackIn l m samplesPart samples) before (spansAfter (l .keep) before n) e n c
+pub record CarrierMade (l : Layout) (book m q : List Float) (samples : Span) (before : Spans) (e n c : ℕ)
+    : Type 0 where
+  pub carrier :
+      CarrierFiltered l book m q (trackIn l m samplesPart samples) before (spansAfter (l .keep) before n) e n c
   pub others : PartsKept l m q (filteredPart c) (suc (powerPart c))
 
 -- those of the first k carriers
-pub record CarriersMade (l : Layout) (book m q : List Float) (samples : Span) (before : Spans) (e n k : ℕ) : Type 0 where
-  pub carriers : (c : ℕ) → c < k → CarrierFiltered l book m q (trackIn l m samplesPart samples) before (spansAfter (l .keep) before n) e n c
+pub record CarriersMade (l : Layout) (book m q : List Float) (samples : Span) (before : Spans) (e n k : ℕ)
+    : Type 0 where
+  pub carriers :
+      (c : ℕ) → c < k
+      → CarrierFiltered l book m q (trackIn l m samplesPart samples) before (spansAfter (l .keep) before n) e n c
   pub others : PartsKept l m q (filteredPart 0) (filteredPart k)
 
 -- spans whose sums stay small

@@ -22,7 +22,8 @@ turnAt book hz n = cget book (hz * n % 3000)
 unfoldable pub filteredAt : Layout → List Float → ℕ → (ℕ → Complex) → ℕ → Complex
 filteredAt l book c s m =
     sumTo
-    (λ j. cscale (cmul (turnAt book (carrierHz l c) (m - l .delay + j)) (s (m - l .delay + j))) (receiverTap (pulseOf (l .taps)) j))
+    (λ j. cscale (cmul (turnAt book (carrierHz l c) (m - l .delay + j)) (s (m - l .delay + j)))
+    (receiverTap (pulseOf (l .taps)) j))
     (l .taps)
 
 -- the step at position m, of filtered values y that begin at base: "a step with no neighbour 32 before is zero"

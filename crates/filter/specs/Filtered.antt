@@ -1,4 +1,4 @@
--- The carriers' tracks after new samples (01, "Tracks and filter"; rx/psk.rs, `filter`): what the call asks, what it ensures. Definitions only.
+-- The carriers' tracks after new samples (01, "Tracks and filter"; rx/psk.rs, `filter`). Definitions only.
 use Prim.Native.Nat.{ℕ, _+_, _*_, _^_, _<_, _≤_}
 use mathlib.Core.Path.{_≡_}
 use mathlib.Core.List.{List}
@@ -29,7 +29,11 @@ powersAfter l y e n t = append (l .keep) t (window (λ m. powerOf l (stepAt (y .
 -- the three spans after n new values
 abbrev pub spansAfter : ℕ → Spans → ℕ → Spans
 spansAfter keep s n =
-    record { filtered = spanAfter keep (s .filtered) n; step = spanAfter keep (s .step) n; power = spanAfter keep (s .power) n }
+    record {
+      filtered = spanAfter keep (s .filtered) n;
+      step = spanAfter keep (s .step) n;
+      power = spanAfter keep (s .power) n;
+    }
 
 -- n new values from position e on, in a memory of `room` f64, with a turn book of `book` f64
 pub record FilterFits (l : Layout) (room book : ℕ) (samples : Span) (spans : Spans) (e n : ℕ) : Type 0 where
@@ -49,15 +53,20 @@ pub record FilterFits (l : Layout) (room book : ℕ) (samples : Span) (spans : S
   pub reach : 0 < n → e + n + l .delay ≤ spanEnd samples
 
 -- carrier c, with spans `before` in memory m and spans `after` in memory q, of samples s
-pub record CarrierFiltered (l : Layout) (book m q : List Float) (s : Track) (before after : Spans) (e n c : ℕ) : Type 0 where
-  pub filtered : trackIn l q (filteredPart c) (after .filtered) ≡ filteredAfter l book s e n c (trackIn l m (filteredPart c) (before .filtered))
+pub record CarrierFiltered (l : Layout) (book m q : List Float) (s : Track) (before after : Spans) (e n c : ℕ)
+    : Type 0 where
+  pub filtered : trackIn l q (filteredPart c) (after .filtered)
+      ≡ filteredAfter l book s e n c (trackIn l m (filteredPart c) (before .filtered))
   pub step : trackIn l q (stepPart c) (after .step)
-      ≡ stepsAfter l (filteredAfter l book s e n c (trackIn l m (filteredPart c) (before .filtered))) e n (trackIn l m (stepPart c) (before .step))
+      ≡ stepsAfter l (filteredAfter l book s e n c (trackIn l m (filteredPart c) (before .filtered))) e n
+      (trackIn l m (stepPart c) (before .step))
   pub power : trackIn l q (powerPart c) (after .power)
-      ≡ powersAfter l (filteredAfter l book s e n c (trackIn l m (filteredPart c) (before .filtered))) e n (trackIn l m (powerPart c) (before .power))
+      ≡ powersAfter l (filteredAfter l book s e n c (trackIn l m (filteredPart c) (before .filtered))) e n
+      (trackIn l m (powerPart c) (before .power))
 
 -- every carrier, with the part of the samples as it was
-pub record Filtered (l : Layout) (book m q : List Float) (samples : Span) (before after : Spans) (e n : ℕ) : Type 0 where
+pub record Filtered (l : Layout) (book m q : List Float) (samples : Span) (before after : Spans) (e n : ℕ)
+    : Type 0 where
   pub spans : after ≡ spansAfter (l .keep) before n
   pub carriers : (c : ℕ) → c < l .nc → CarrierFiltered l book m q (trackIn l m samplesPart samples) before after e n c
   pub others : PartsKept l m q (filteredPart 0) (filteredPart (l .nc))

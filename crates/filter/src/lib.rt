@@ -7,7 +7,8 @@ ghost use Rattle.complex.specs.Pairs.{cget, cset, cfilled};
 ghost use Rattle.level.specs.Sized.{Sized};
 ghost use Rattle.filter.specs.Filter.{powerOf};
 ghost use Rattle.filter.specs.Filtered.{spansAfter, FilterFits, Filtered};
-ghost use Rattle.filter.specs.Carrier.{turned, firAt, fourOf, stepOf, IsTaps, CarrierFits, FilteredMade, StepFits, StepsMade, CarrierMade, CarriersMade, SpansFit};
+ghost use Rattle.filter.specs.Carrier.{turned, firAt, fourOf, stepOf, IsTaps, CarrierFits, FilteredMade};
+ghost use Rattle.filter.specs.Carrier.{StepFits, StepsMade, CarrierMade, CarriersMade, SpansFit};
 use complex::Complex;
 use level::Layout;
 use track::Span;
@@ -37,9 +38,11 @@ fn turn(
     first: u64,
     count: usize,
 )
-    requires { ⌜ (2 * count ≤ length (now out)) × (2 * (from + count) ≤ length (now memory)) × (length (now book) ≡ 6000) ⌝ }
+    requires { ⌜ (2 * count ≤ length (now out)) × (2 * (from + count) ≤ length (now memory))
+        × (length (now book) ≡ 6000) ⌝ }
     requires { ⌜ (hz ≤ 2760) × (first < 2 ^ 50) × (count ≤ 8192) ⌝ }
-    ensures { λ _. ⌜ now (out .exit) ≡ cfilled (turned (now (book .entry)) (now (memory .entry)) hz first from) count (now (out .entry)) ⌝ }
+    ensures { λ _. ⌜ now (out .exit) ≡ cfilled (turned (now (book .entry)) (now (memory .entry)) hz first from) count
+        (now (out .entry)) ⌝ }
 {
     let mut k = 0;
     while k < count {
@@ -102,7 +105,8 @@ fn fir_four(v: &[f64], taps: &[f64], count: usize, i: usize) -> Four
 // Stores four sums, from place i on.
 fn put_four(out: &mut [f64], i: usize, four: Four)
     requires { ⌜ 2 * (i + 4) ≤ length (now out) ⌝ }
-    ensures { λ _. ⌜ now (out .exit) ≡ cset (cset (cset (cset (now (out .entry)) i (four .first)) (i + 1) (four .second)) (i + 2) (four .third)) (i + 3) (four .fourth) ⌝ }
+    ensures { λ _. ⌜ now (out .exit) ≡ cset (cset (cset (cset (now (out .entry)) i (four .first)) (i + 1)
+        (four .second)) (i + 2) (four .third)) (i + 3) (four .fourth) ⌝ }
 {
     let first = four.first;
     let second = four.second;
@@ -116,9 +120,11 @@ fn put_four(out: &mut [f64], i: usize, four: Four)
 
 // Fills out with n of these sums, of which it has the first `from`.
 fn fir_rest(out: &mut [f64], v: &[f64], taps: &[f64], count: usize, from: usize, n: usize)
-    requires { ⌜ (2 * (n + count) ≤ length (now v) + 2) × (count ≤ length (now taps)) × (2 * n ≤ length (now out)) × (from ≤ n) ⌝ }
+    requires { ⌜ (2 * (n + count) ≤ length (now v) + 2) × (count ≤ length (now taps)) × (2 * n ≤ length (now out))
+        × (from ≤ n) ⌝ }
     requires { ⌜ now out ≡ cfilled (firAt (now v) (now taps) count) from (now out) ⌝ }
-    ensures { λ _. ⌜ now (out .exit) ≡ cfilled (firAt (now (v .entry)) (now (taps .entry)) count) n (now (out .entry)) ⌝ }
+    ensures { λ _. ⌜ now (out .exit) ≡ cfilled (firAt (now (v .entry)) (now (taps .entry)) count) n
+        (now (out .entry)) ⌝ }
 {
     let mut at = from;
     while at < n {
@@ -130,7 +136,8 @@ fn fir_rest(out: &mut [f64], v: &[f64], taps: &[f64], count: usize, from: usize,
 // Fills out with n of these sums, four a turn.
 fn fir(out: &mut [f64], v: &[f64], taps: &[f64], count: usize, n: usize)
     requires { ⌜ (2 * (n + count) ≤ length (now v) + 2) × (count ≤ length (now taps)) × (2 * n ≤ length (now out)) ⌝ }
-    ensures { λ _. ⌜ now (out .exit) ≡ cfilled (firAt (now (v .entry)) (now (taps .entry)) count) n (now (out .entry)) ⌝ }
+    ensures { λ _. ⌜ now (out .exit) ≡ cfilled (firAt (now (v .entry)) (now (taps .entry)) count) n
+        (now (out .entry)) ⌝ }
 {
     let mut i = 0;
     while i + 3 < n {
@@ -141,7 +148,8 @@ fn fir(out: &mut [f64], v: &[f64], taps: &[f64], count: usize, n: usize)
     fir_rest(out, v, taps, count, i, n);
 }
 
-// Appends n values, from position e on, to the filtered track of carrier c. There are at most 4,000, from 128 samples more.
+// Appends n values, from position e on, to the filtered track of carrier c. There are at most 4,000, from 128
+// samples more.
 fn filter_track(
     l: Layout,
     memory: &mut [f64],
@@ -154,7 +162,8 @@ fn filter_track(
     c: usize,
 ) -> Span
     requires { ⌜ CarrierFits l (length (now memory)) (length (now book)) (now taps) samples spans e n c ⌝ }
-    ensures { λ r. ⌜ FilteredMade l (now (book .entry)) (now (memory .entry)) (now (memory .exit)) samples (spans .filtered) e n c r ⌝ }
+    ensures { λ r. ⌜ FilteredMade l (now (book .entry)) (now (memory .entry)) (now (memory .exit)) samples
+        (spans .filtered) e n c r ⌝ }
 {
     let hz = level::carrier_hz(l, c);
     let first = e - l.delay;
@@ -183,7 +192,8 @@ fn step_at(memory: &[f64], at: usize, place: usize) -> Complex
 // Fills out with n steps, from a place on.
 fn steps(out: &mut [f64], memory: &[f64], at: usize, place: usize, n: usize)
     requires { ⌜ (2 * n ≤ length (now out)) × (2 * (at + (place + n)) ≤ length (now memory)) ⌝ }
-    ensures { λ _. ⌜ now (out .exit) ≡ cfilled (λ i. stepOf (now (memory .entry)) at (place + i)) n (now (out .entry)) ⌝ }
+    ensures { λ _. ⌜ now (out .exit) ≡ cfilled (λ i. stepOf (now (memory .entry)) at (place + i)) n
+        (now (out .entry)) ⌝ }
 {
     let mut i = 0;
     while i < n {
@@ -215,7 +225,8 @@ fn powers(l: Layout, out: &mut [f64], steps: &[f64], n: usize)
     }
 }
 
-// Appends n steps and their powers, from position e on, to the tracks of carrier c, whose filtered track has that span.
+// Appends n steps and their powers, from position e on, to the tracks of carrier c, whose filtered track has that
+// span.
 fn step_tracks(
     l: Layout,
     memory: &mut [f64],
@@ -252,7 +263,8 @@ fn filter_carrier(
     c: usize,
 )
     requires { ⌜ CarrierFits l (length (now memory)) (length (now book)) (now taps) samples spans e n c ⌝ }
-    ensures { λ _. ⌜ CarrierMade l (now (book .entry)) (now (memory .entry)) (now (memory .exit)) samples spans e n c ⌝ }
+    ensures { λ _. ⌜ CarrierMade l (now (book .entry)) (now (memory .entry)) (now (memory .exit)) samples spans e n
+        c ⌝ }
 {
     let filtered = filter_track(l, memory, book, taps, samples, spans, e, n, c);
     let step = spans.step;
@@ -271,8 +283,10 @@ fn filter_each(
     e: u64,
     n: usize,
 )
-    requires { ⌜ FilterFits l (length (now memory)) (length (now book)) samples spans e n × IsTaps l (now taps) × (0 < n) ⌝ }
-    ensures { λ _. ⌜ CarriersMade l (now (book .entry)) (now (memory .entry)) (now (memory .exit)) samples spans e n (l .nc) ⌝ }
+    requires { ⌜ FilterFits l (length (now memory)) (length (now book)) samples spans e n × IsTaps l (now taps)
+        × (0 < n) ⌝ }
+    ensures { λ _. ⌜ CarriersMade l (now (book .entry)) (now (memory .entry)) (now (memory .exit)) samples spans e n
+        (l .nc) ⌝ }
 {
     let mut c = 0;
     while c < l.nc {
@@ -296,7 +310,8 @@ fn spans_after(spans: Spans, keep: u64, n: usize) -> Spans
     }
 }
 
-// The carriers' tracks with n new values each, from position e on, where they end: the sample track has all that these take.
+// The carriers' tracks with n new values each, from position e on, where they end: the sample track has all that
+// these take.
 pub fn filter_carriers(
     l: Layout,
     memory: &mut [f64],

@@ -1,4 +1,5 @@
--- Demand 3: an accepted reading of what a list of calls left is the reading of the rows of the opening and the accepted feeds, and reads a frame as it was sent exactly
+-- Demand 3: an accepted reading of what a list of calls left is the reading of the rows of the opening and the
+-- accepted feeds, and reads a frame as it was sent exactly
 -- when every nearest point is the step sent. Assumes nothing.
 use Prim.Native.Nat.{ℕ, _-_, _*_, _≤_, _<_}
 use mathlib.Core.Path.{_≡_, refl, sym, ap, _∙_, subst}
@@ -27,13 +28,13 @@ use Rattle.psk.proofs.AcceptedLaws.{call-of}
 use Rattle.decode.specs.Steps.{stepCount, stepPlace, gainOf, divided, receivedIn, scratchOf}
 use Rattle.decode.specs.SoftBits.{softBits}
 use Rattle.decode.specs.Entries.{scratch-at, step-at}
-use Rattle.rx.specs.declared.State.{State}
+use Rattle.state.specs.declared.State.{State}
 use Rattle.rx.specs.declared.FeedAnswer.{FeedAnswer}
 use Rattle.rx.specs.declared.FeedAnswer.the-variants.{Accepted, Refused}
 use Rattle.rx.specs.Open.{openedState}
 use Rattle.rx.specs.Feed.{Given, Left}
 use Rattle.rx.specs.View.{view}
-use Rattle.rx.specs.Conditions.{wrongState}
+use Rattle.state.specs.Conditions.{wrongState}
 use Rattle.rx.specs.Sound.{Sound, sound}
 use Rattle.reading.specs.declared.Reading.{Reading}
 use Rattle.reading.specs.Rows.{trackRows}
@@ -60,25 +61,39 @@ record Keeps (s : State) (m : List Float) (s′ : State) (m′ : List Float) : T
 left-keeps : (g : Given) {s s′ : State} {m m′ : List Float} (a : FeedAnswer) → Left a g s m s′ m′ → Keeps s m s′ m′
 left-keeps g (Accepted r) w = record { bandwidth = w .0; rec = w .1; as-long = w .2 }
 left-keeps g (Refused f) w =
-    record { bandwidth = ap (λ (x : State). x .bandwidth) (w .0); rec = ap (λ (x : State). x .rec) (w .0); as-long = ap (λ (x : List Float). length x) (w .1) }
+    record {
+      bandwidth = ap (λ (x : State). x .bandwidth) (w .0);
+      rec = ap (λ (x : State). x .rec) (w .0);
+      as-long = ap (λ (x : List Float). length x) (w .1);
+    }
 
 keeps-join : {s s₁ s′ : State} {m m₁ m′ : List Float} → Keeps s m s₁ m₁ → Keeps s₁ m₁ s′ m′ → Keeps s m s′ m′
-keeps-join u v = record { bandwidth = v .bandwidth ∙ u .bandwidth; rec = v .rec ∙ u .rec; as-long = v .as-long ∙ u .as-long }
+keeps-join u v =
+    record {
+      bandwidth = v .bandwidth ∙ u .bandwidth;
+      rec = v .rec ∙ u .rec;
+      as-long = v .as-long
+          ∙ u .as-long;
+    }
 
-calls-keep : {s s′ : State} {m m′ : List Float} {gs : List Given} {rs : List FeedAnswer} → Calls s m gs s′ m′ rs → Keeps s m s′ m′
+calls-keep : {s s′ : State} {m m′ : List Float} {gs : List Given} {rs : List FeedAnswer} → Calls s m gs s′ m′ rs
+    → Keeps s m s′ m′
 calls-keep none = record { bandwidth = refl; rec = refl; as-long = refl }
 calls-keep (next {g = g} {a = a} w c) = keeps-join (left-keeps g a (w .left)) (calls-keep c)
 
 -- ---- the receiving end
 -- an opening that answered s₀, and calls from it
-pub record Begun (hz rec start : ℕ) (gs : List Given) (s : State) (memory : List Float) (rs : List FeedAnswer) : Type 0 where
+pub record Begun (hz rec start : ℕ) (gs : List Given) (s : State) (memory : List Float) (rs : List FeedAnswer) : Type
+    0 where
   pub opened : State
   pub opening : OpenedAs hz rec start opened
   pub lent : List Float
   pub calls : Calls opened lent gs s memory rs
 
--- a call of layout l whose state 17 doesn't refuse: its layout is the opening's, so the calls before it follow from the opening
-module _ (hz₀ rec₀ start : ℕ) (gs : List Given) (s : State) (memory : List Float) (rs : List FeedAnswer) (h : Begun hz₀ rec₀ start gs s memory rs) (hz rec : ℕ) (l : Layout)
+-- a call of layout l whose state 17 doesn't refuse: its layout is the opening's, so the calls before it follow from
+-- the opening
+module _ (hz₀ rec₀ start : ℕ) (gs : List Given) (s : State) (memory : List Float) (rs : List FeedAnswer)
+    (h : Begun hz₀ rec₀ start gs s memory rs) (hz rec : ℕ) (l : Layout)
     (c : chosen hz rec ≡ answered l) (w : wrongState l (length memory) s ≡ false) where
   state-sound : Sound l s × (length memory ≡ 2 * memoryLength l)
   state-sound = sound l (length memory) s w
@@ -103,7 +118,8 @@ module _ (hz₀ rec₀ start : ℕ) (gs : List Given) (s : State) (memory : List
       subst (λ (x : Layout). Follows x start gs s memory rs) (sym same)
       (opened-follows hz₀ rec₀ start (h .opened) (h .lent) (h .opening) room gs s memory rs (h .calls))
 
-module _ (hz₀ rec₀ start : ℕ) (gs : List Given) (s : State) (memory : List Float) (rs : List FeedAnswer) (h : Begun hz₀ rec₀ start gs s memory rs) (a : Asked) (r : Reading)
+module _ (hz₀ rec₀ start : ℕ) (gs : List Given) (s : State) (memory : List Float) (rs : List FeedAnswer)
+    (h : Begun hz₀ rec₀ start gs s memory rs) (a : Asked) (r : Reading)
     (scratch out : List Float) (d : ReadDone a s memory r scratch out) where
   abbrev l : Layout
   l = d .layout
@@ -146,7 +162,8 @@ module _ (hz₀ rec₀ start : ℕ) (gs : List Given) (s : State) (memory : List
         result = rw (symbols-received, located-same l is-one (tablesOf a) (a .drift) (a .t0) _ _ rows) at (d .result);
         scratch-is = scratch-received;
         out-is = rw symbols-received at (d .out-is);
-        steps = λ c s C p S. entry (stepPlace l c s) ∙ step-at l (divided l (a .markers) z) (stepPlace l c s) (step-in c s C p S);
+        steps = λ c s C p S. entry (stepPlace l c s) ∙ step-at l (divided l (a .markers) z) (stepPlace l c s)
+            (step-in c s C p S);
         rest = λ k K N. entry k ∙ scratch-at l (divided l (a .markers) z) k N ∙ rw (le-ltb _ _ K);
       }
 
@@ -158,9 +175,11 @@ module _ (hz₀ rec₀ start : ℕ) (gs : List Given) (s : State) (memory : List
   frame-follows m e room R f F =
       let G : T (positive (gainOf l (m .markers) z)) = rw e gain-received in
       subst (λ (x : List Float). FrameRead l m f (receivedIn l (a .markers) z) x) (sym (reading-follows .out-is))
-      (subst (λ (table : List ℕ). FrameRead l m f (receivedIn l table z) (softBits l table z)) e (frame-as l m room R z G f F))
+      (subst (λ (table : List ℕ). FrameRead l m f (receivedIn l table z) (softBits l table z)) e
+      (frame-as l m room R z G f F))
 
-ready-for : (hz rec : ℕ) (m : Sending) (rows rows′ : List Float) (l : Layout) → chosen hz rec ≡ answered l → Modulated hz rec m rows rows′ sent.Done → Ready l m (length rows)
+ready-for : (hz rec : ℕ) (m : Sending) (rows rows′ : List Float) (l : Layout) → chosen hz rec ≡ answered l
+    → Modulated hz rec m rows rows′ sent.Done → Ready l m (length rows)
 ready-for hz rec m rows rows′ l c w =
     let k : Call hz rec m (length rows) rows′ = call-of hz rec m (length rows) rows′ (sym (w .answer)) in
     let e : answered (k .layout) ≡ answered l = sym (k .chosen-is) ∙ c in
@@ -171,7 +190,8 @@ begun : (h : Session) → Begun (h .bandwidth) (h .rec) (h .start) (h .given) (h
 begun h =
     record {
       opened = h .opened;
-      opening = opened-as (h .bandwidth) (h .rec) (h .markers) (h .phasors) (h .start) (h .book) (h .opened) (h .opening);
+      opening = opened-as (h .bandwidth) (h .rec) (h .markers) (h .phasors) (h .start) (h .book) (h .opened)
+          (h .opening);
       lent = h .lent;
       calls = h .calls;
     }
@@ -185,27 +205,34 @@ locate-follows h a f w =
     record {
       layout = l;
       chosen-is = p .chosen-is;
-      opened-is = opened-with (h .bandwidth) (h .rec) (h .start) (h .given) (h .state) (h .memory) (h .answers) b (a .bandwidth) (a .rec) l (p .chosen-is) (p .state-ok);
+      opened-is = opened-with (h .bandwidth) (h .rec) (h .start) (h .given) (h .state) (h .memory) (h .answers) b
+          (a .bandwidth) (a .rec) l (p .chosen-is) (p .state-ok);
       found =
           p .result
           ∙ located-same l (is-layout (a .bandwidth) (a .rec) l (p .chosen-is)) (tablesOf a) [] (a .t0) _ _
           (rows-same l (h .start) (h .given) (h .state) (h .memory) (h .answers)
-          (fed-follows (h .bandwidth) (h .rec) (h .start) (h .given) (h .state) (h .memory) (h .answers) b (a .bandwidth) (a .rec) l (p .chosen-is) (p .state-ok)) (a .t0) []
+          (fed-follows (h .bandwidth) (h .rec) (h .start) (h .given) (h .state) (h .memory) (h .answers) b
+          (a .bandwidth) (a .rec) l (p .chosen-is) (p .state-ok)) (a .t0) []
           (frame-in-hand l (h .state) (a .t0) (p .in-hand)));
     }
 
 pub demand-3 : Demand3
 unfolding Demand3
 demand-3 h p P a r scratch out w m v =
-    let d : ReadDone a (h .state) (h .memory) r scratch out = read-of a (h .state) (h .memory) (w .scratch-lent) (w .out-lent) r scratch out (w .call) in
+    let d : ReadDone a (h .state) (h .memory) r scratch out = read-of a (h .state) (h .memory) (w .scratch-lent)
+    (w .out-lent) r scratch out (w .call) in
     let b = begun h in
     record {
       layout = d .layout;
       chosen-is = d .chosen-is;
-      opened-is = opened-layout (h .bandwidth) (h .rec) (h .start) (h .given) (h .state) (h .memory) (h .answers) b a r scratch out d;
-      answers = follows (h .bandwidth) (h .rec) (h .start) (h .given) (h .state) (h .memory) (h .answers) b a r scratch out d .answers;
-      reading = reading-follows (h .bandwidth) (h .rec) (h .start) (h .given) (h .state) (h .memory) (h .answers) b a r scratch out d;
+      opened-is = opened-layout (h .bandwidth) (h .rec) (h .start) (h .given) (h .state) (h .memory) (h .answers) b a
+          r scratch out d;
+      answers = follows (h .bandwidth) (h .rec) (h .start) (h .given) (h .state) (h .memory) (h .answers) b a r
+          scratch out d .answers;
+      reading = reading-follows (h .bandwidth) (h .rec) (h .start) (h .given) (h .state) (h .memory) (h .answers) b a
+          r scratch out d;
       frames =
-          frame-follows (h .bandwidth) (h .rec) (h .start) (h .given) (h .state) (h .memory) (h .answers) b a r scratch out d m (v .markers) (length (v .rows-lent))
+          frame-follows (h .bandwidth) (h .rec) (h .start) (h .given) (h .state) (h .memory) (h .answers) b a r
+          scratch out d m (v .markers) (length (v .rows-lent))
           (ready-for (a .bandwidth) (a .rec) m (v .rows-lent) (v .rows) (d .layout) (d .chosen-is) (v .call));
     }

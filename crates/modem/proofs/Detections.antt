@@ -1,4 +1,5 @@
--- Over every list of calls from an opening, refused ones included: which are accepted, what the tracks hold, and what is released. Assumes nothing.
+-- Over every list of calls from an opening, refused ones included: which are accepted, what the tracks hold, and
+-- what is released. Assumes nothing.
 use Prim.Native.Nat.{ℕ, _*_, _^_, _≤_}
 use mathlib.Core.Path.{_≡_, refl, ap, _∙_}
 use mathlib.Core.List.{List}
@@ -12,54 +13,59 @@ use Rattle.hold.specs.declared.Block.the-variants.{First}
 use Rattle.hold.specs.Offer.{freshHold}
 use Rattle.hold.specs.History.{Detection, History}
 use Rattle.hold.proofs.HistoryRule.{history-rule}
-use Rattle.rx.specs.declared.State.{State}
+use Rattle.state.specs.declared.State.{State}
 use Rattle.rx.specs.declared.FeedAnswer.{FeedAnswer}
-use Rattle.rx.specs.Receiver.{Receiver, Feed, fed}
+use Rattle.rx.specs.Receiver.{Receiver}
 use Rattle.rx.specs.View.{view}
 use Rattle.rx.specs.Open.{openedState}
 use Rattle.rx.specs.Feed.{Given}
 use Rattle.rx.specs.Sound.{not-wrong}
-use Rattle.rx.specs.Once.{once}
 use Rattle.modem.specs.Ideal.{accepted, verdicts, sampleRow, broughtBy, offersOf}
 use Rattle.modem.specs.Calls.{Calls, detections}
 use Rattle.modem.specs.FedAll.{fedOn, fedAll, stateOf}
 use Rattle.modem.specs.Follows.{Follows}
 use Rattle.modem.proofs.Fresh.{fresh-view, reached-open, offers-number, end-open, place-open, hold-open}
 use Rattle.modem.proofs.Brought.{agrees-open}
-use Rattle.modem.proofs.Lists.{Led, calls-lead}
+use Rattle.modem.proofs.Lists.{AfterCalls, calls-leave}
 use Rattle.modem.proofs.Shown.{state-shown}
 
-module _ (l : Layout) (i : IsLayout l) (start : ℕ) (early : start ≤ 2 ^ 40) (memory : List Float) (room : length memory ≡ 2 * memoryLength l)
-    (gs : List Given) (s : State) (memory′ : List Float) (rs : List FeedAnswer) (calls : Calls (openedState l start) memory gs s memory′ rs) where
-  led : Led l i start (sampleRow start (accepted l start gs)) (broughtBy start (accepted l start gs)) (openedState l start) memory (accepted l start gs) (verdicts l start gs) s memory′ rs
-  led =
+module _ (l : Layout) (i : IsLayout l) (start : ℕ) (early : start ≤ 2 ^ 40) (memory : List Float)
+    (room : length memory ≡ 2 * memoryLength l)
+    (gs : List Given) (s : State) (memory′ : List Float) (rs : List FeedAnswer)
+    (calls : Calls (openedState l start) memory gs s memory′ rs) where
+  after-calls : AfterCalls l i start (sampleRow start (accepted l start gs)) (broughtBy start (accepted l start gs))
+      (openedState l start) memory (accepted l start gs) (verdicts l start gs) s memory′ rs
+  after-calls =
       rw (end-open l start) at
-      (calls-lead l i start (sampleRow start (accepted l start gs)) (broughtBy start (accepted l start gs)) calls (reached-open l start _ _ i memory early) room
+      (calls-leave l i start (sampleRow start (accepted l start gs)) (broughtBy start (accepted l start gs)) calls
+      (reached-open l start _ _ i memory early) room
       (rw (end-open l start) (agrees-open start (accepted l start gs))))
 
   receiver-is : view l s memory′ ≡ fedAll l start (accepted l start gs)
-  receiver-is = led .receiver ∙ ap (λ (r : Receiver). fedOn l r (accepted l start gs)) (fresh-view l start memory)
+  receiver-is = after-calls .receiver ∙ ap (λ (r : Receiver). fedOn l r (accepted l start gs))
+      (fresh-view l start memory)
 
   -- what the calls answer, leave and release follows from the opening and from what they are given
   pub follows : Follows l start gs s memory′ rs
   unfolding offersOf
   follows =
       record {
-        answers = led .answers;
-        in-order = not-wrong l (length memory′) s (led .reached .sound) (led .room);
-        samples-end = rw (end-open l start) at (led .ends);
-        state = state-shown l i s memory′ (led .reached .sound .bandwidth) (led .reached .sound .rec) ∙ ap (λ (r : Receiver). stateOf l r) receiver-is;
+        answers = after-calls .answers;
+        in-order = not-wrong l (length memory′) s (after-calls .reached .sound) (after-calls .room);
+        samples-end = rw (end-open l start) at (after-calls .ends);
+        state = state-shown l i s memory′ (after-calls .reached .sound .bandwidth) (after-calls .reached .sound .rec)
+            ∙ ap (λ (r : Receiver). stateOf l r) receiver-is;
         receiver = receiver-is;
-        tracks = led .reached .shows;
-        filtered-from = led .reached .filtered-from;
-        released = rw (hold-open l start, place-open l start, end-open l start) at (led .released);
+        tracks = after-calls .reached .shows;
+        filtered-from = after-calls .reached .filtered-from;
+        released = rw (hold-open l start, place-open l start, end-open l start) at (after-calls .released);
       }
 
-  -- "each release is the earliest of greatest metric among candidates offered strictly between release offers at positions not below the block": the detections of all the
-  -- feeds follow the history rule over the offers of the joined samples, and no other list does
-  pub detections-rule : (ds : List Detection) → History 8 (l .dead) First (offersOf l start (accepted l start gs)) ds ↔ (ds ≡ detections rs)
-  detections-rule ds = rw (follows .released) (history-rule (freshHold 8 (l .dead)) (offersOf l start (accepted l start gs)) refl (offers-number l start (accepted l start gs)) ds)
-
-  -- "A feed releases at most one": the next one too, whatever it brings
-  pub next-once : (f : Feed) → length (f .samples) ≤ 4000 → length (fed l f (view l s memory′) .released) ≤ 1
-  next-once f few = once l i s memory′ f (follows .in-order) few
+  -- the detections of all the calls follow the history rule over the offers of the joined samples, and no other list
+  -- does
+  pub released-by-rule : (ds : List Detection)
+      → History 8 (l .dead) First (offersOf l start (accepted l start gs)) ds ↔ (ds ≡ detections rs)
+  released-by-rule ds =
+      rw (follows .released)
+      (history-rule (freshHold 8 (l .dead)) (offersOf l start (accepted l start gs)) refl
+      (offers-number l start (accepted l start gs)) ds)

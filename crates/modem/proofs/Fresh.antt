@@ -20,11 +20,11 @@ use Rattle.hold.specs.declared.Candidate.the-variants.{NoCandidate, Metric}
 use Rattle.hold.specs.Offer.{freshHold}
 use Rattle.hold.specs.History.{Each, Number}
 use Rattle.search.specs.Chi.{least, candidateOf}
-use Rattle.rx.specs.declared.SearchPlace.the-variants.{Fresh}
+use Rattle.state.specs.declared.SearchPlace.the-variants.{Fresh}
 use Rattle.rx.specs.Receiver.{opened, emptyCarrier, Feed}
 use Rattle.rx.specs.View.{carrierIn, view}
 use Rattle.rx.specs.Open.{openedState}
-use Rattle.rx.specs.Conditions.{spanEnd}
+use Rattle.state.specs.Conditions.{spanEnd}
 use Rattle.rx.specs.Once.{each-offer}
 use Rattle.rx.specs.Numbers.{placeIn}
 use Rattle.rx.specs.After.{sound-opened}
@@ -40,22 +40,30 @@ module _ (l : Layout) (start : ℕ) (memory : List Float) where
   pub fresh-view : view l (openedState l start) memory ≡ opened l start
   unfolding view opened openedState trackIn complexes tabulate
   fresh-view =
-      rw (tabulate-ext (carrierIn l (openedState l start) memory) (λ c. emptyCarrier (start + l .delay)) (l .nc) (λ c h. fresh-carrier c))
+      rw (tabulate-ext (carrierIn l (openedState l start) memory) (λ c. emptyCarrier (start + l .delay)) (l .nc)
+      (λ c h. fresh-carrier c))
 
 module _ (l : Layout) (start : ℕ) (x : ℕ → Complex) (b : ℕ → Feed) where
-  no-part : (c : ℕ) → carrierPart l start x b (start + l .delay) (filteredEnd l start (start + 0)) c ≡ emptyCarrier (start + l .delay)
+  no-part : (c : ℕ) → carrierPart l start x b (start + l .delay) (filteredEnd l start (start + 0)) c
+      ≡ emptyCarrier (start + l .delay)
   unfolding carrierPart part window tabulate
   no-part c =
       let q : filteredEnd l start (start + 0) - (start + l .delay) ≡ 0 = omega arith in
       rw q
 
-  opened-is : opened l start ≡ receiverOf l start x b start (start + 0) (start + l .delay) Fresh (freshHold 8 (l .dead))
+  opened-is : opened l start ≡ receiverOf l start x b start (start + 0) (start + l .delay) Fresh
+      (freshHold 8 (l .dead))
   unfolding opened receiverOf part window tabulate
   opened-is =
       let p : start + 0 - start ≡ 0 = omega arith in
-      rw (p, tabulate-ext (carrierPart l start x b (start + l .delay) (filteredEnd l start (start + 0))) (λ c. emptyCarrier (start + l .delay)) (l .nc) (λ c h. no-part c))
+      rw (
+        p,
+        tabulate-ext (carrierPart l start x b (start + l .delay) (filteredEnd l start (start + 0)))
+            (λ c. emptyCarrier (start + l .delay)) (l .nc) (λ c h. no-part c),
+      )
 
-  pub reached-open : (i : IsLayout l) (memory : List Float) → start ≤ 2 ^ 40 → Reached l start x b (openedState l start) memory
+  pub reached-open : (i : IsLayout l) (memory : List Float) → start ≤ 2 ^ 40
+      → Reached l start x b (openedState l start) memory
   unfolding openedState
   reached-open i memory h =
       record {

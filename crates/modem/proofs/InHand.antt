@@ -1,4 +1,5 @@
--- Where a reading that 22 doesn't refuse looks, the tracks hold the rows of the opening and the accepted feeds. Assumes nothing.
+-- Where a reading that 22 doesn't refuse looks, the tracks hold the rows of the opening and the accepted feeds.
+-- Assumes nothing.
 use Prim.Native.Nat.{ℕ, _+_, _-_, _≤_, _<_, max}
 use mathlib.Core.Path.{_≡_, ap}
 use mathlib.Core.Bool.{false}
@@ -15,17 +16,18 @@ use Rattle.level.specs.declared.Layout.{Layout}
 use Rattle.filter.specs.Filter.{filteredEnd}
 use Rattle.track.specs.Track.{valueAt}
 use Rattle.search.specs.Search.{reach}
-use Rattle.rx.specs.declared.State.{State}
+use Rattle.state.specs.declared.State.{State}
 use Rattle.rx.specs.declared.FeedAnswer.{FeedAnswer}
 use Rattle.rx.specs.Receiver.{Carrier, Receiver, Feed, carrierOf}
 use Rattle.rx.specs.View.{view}
-use Rattle.rx.specs.Conditions.{spanEnd}
+use Rattle.state.specs.Conditions.{spanEnd}
 use Rattle.rx.specs.Feed.{Given}
 use Rattle.rx.specs.Sound.{Sound, sound}
 use Rattle.reading.specs.Rows.{trackRows}
 use Rattle.reading.specs.Conditions.{framePast, samplesPast, notInHand}
 use Rattle.reading.specs.Local.{SameRows}
-use Rattle.modem.specs.Ideal.{accepted, sampleRow, broughtBy, filteredRow, stepRow, powerRow, carrierPart, receiverOf}
+use Rattle.modem.specs.Ideal.{accepted, sampleRow, broughtBy, filteredRow, stepRow, powerRow, carrierPart}
+use Rattle.modem.specs.Ideal.{receiverOf}
 use Rattle.modem.specs.Received.{idealRows}
 use Rattle.modem.specs.Follows.{Follows}
 use Rattle.modem.proofs.Window.{part-value}
@@ -37,7 +39,8 @@ pub record InHand (l : Layout) (s : State) (t0 : ℕ) (drift : List Float) : Typ
   pub to : t0 + reach l + 4 ≤ spanEnd (s .filtered)
   pub samples-from : (length drift ≡ 0 → ⊥) → s .samples .base .0 + l .delay + 4 ≤ t0
 
-pub in-hand : (l : Layout) (s : State) (t0 : ℕ) (drift : List Float) → notInHand l s t0 drift ≡ false → InHand l s t0 drift
+pub in-hand : (l : Layout) (s : State) (t0 : ℕ) (drift : List Float) → notInHand l s t0 drift ≡ false
+    → InHand l s t0 drift
 unfolding notInHand framePast samplesPast
 in-hand l s t0 drift e =
     let u = neither (framePast l s t0) (samplesPast l s t0 drift) e in
@@ -75,7 +78,8 @@ module _ (l : Layout) (start : ℕ) (x : ℕ → Complex) (b : ℕ → Feed) whe
     unfolding carrierPart
     power-there = rw (carrier-at l start x b fb fe c C) (part-value (powerRow l start x b c) fb fe i h k)
 
-module _ (l : Layout) (start : ℕ) (gs : List Given) (s : State) (memory : List Float) (rs : List FeedAnswer) (w : Follows l start gs s memory rs) where
+module _ (l : Layout) (start : ℕ) (gs : List Given) (s : State) (memory : List Float) (rs : List FeedAnswer)
+    (w : Follows l start gs s memory rs) where
   state-sound : Sound l s
   state-sound = sound l (length memory) s (w .in-order) .0
 
@@ -86,8 +90,10 @@ module _ (l : Layout) (start : ℕ) (gs : List Given) (s : State) (memory : List
   filtered-end : spanEnd (s .filtered) ≡ filteredEnd l start (spanEnd (s .samples))
   filtered-end = rw start-is at (state-sound .filtered-end)
 
-  -- the rows of the tracks and those of the opening and the accepted feeds agree where a reading looks that 22 doesn't refuse
-  pub rows-same : (t0 : ℕ) (drift : List Float) → InHand l s t0 drift → SameRows l drift t0 (trackRows (view l s memory)) (idealRows l start (accepted l start gs))
+  -- the rows of the tracks and those of the opening and the accepted feeds agree where a reading looks that 22
+  -- doesn't refuse
+  pub rows-same : (t0 : ℕ) (drift : List Float) → InHand l s t0 drift
+      → SameRows l drift t0 (trackRows (view l s memory)) (idealRows l start (accepted l start gs))
   unfolding trackRows idealRows receiverOf
   rows-same t0 drift h =
       let fs = accepted l start gs in
@@ -98,13 +104,17 @@ module _ (l : Layout) (start : ℕ) (gs : List Given) (s : State) (memory : List
       rw (w .tracks)
       (record {
         late = omega arith;
-        step = λ c i C p q. step-there l start (sampleRow start fs) (broughtBy start fs) fb fe c i C (omega arith) (omega arith);
-        power = λ c i C p q. power-there l start (sampleRow start fs) (broughtBy start fs) fb fe c i C (omega arith) (omega arith);
-        filtered = λ c i C p q. filtered-there l start (sampleRow start fs) (broughtBy start fs) fb fe c i C (omega arith) (omega arith);
+        step = λ c i C p q. step-there l start (sampleRow start fs) (broughtBy start fs) fb fe c i C (omega arith)
+            (omega arith);
+        power = λ c i C p q. power-there l start (sampleRow start fs) (broughtBy start fs) fb fe c i C (omega arith)
+            (omega arith);
+        filtered = λ c i C p q. filtered-there l start (sampleRow start fs) (broughtBy start fs) fb fe c i C
+            (omega arith) (omega arith);
         drift-late = λ d. let g = h .samples-from d in omega arith;
         samples =
             λ d i p q.
             let g = h .samples-from d in
-            let e : t0 + reach l + 4 + l .delay ≤ spanEnd (s .samples) = whole (start + l .delay) (l .delay) (spanEnd (s .samples)) fb (t0 + reach l + 4) (w .filtered-from) (omega arith) to in
+            let e : t0 + reach l + 4 + l .delay ≤ spanEnd (s .samples) = whole (start + l .delay) (l .delay)
+            (spanEnd (s .samples)) fb (t0 + reach l + 4) (w .filtered-from) (omega arith) to in
             part-value (sampleRow start fs) (s .samples .base .0) (spanEnd (s .samples)) i (omega arith) (omega arith);
       })

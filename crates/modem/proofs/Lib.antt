@@ -10,6 +10,7 @@ pub mod Shown
 pub mod Detections
 pub mod Refused
 pub mod Opened
+pub mod FeedsFollow
 pub mod StateFollows
 pub mod Marked
 pub mod Signs

@@ -1,4 +1,5 @@
--- A state whose view is the receiver of the rows: an accepted feed of what the rows hold leaves such a state. Assumes nothing.
+-- A state whose view is the receiver of the rows: an accepted feed of what the rows hold leaves such a state.
+-- Assumes nothing.
 use Prim.Native.Nat.{ℕ, zero, suc, _+_, _-_, _*_, _%_, _^_, _≤_, _<_, max}
 use mathlib.Core.Path.{_≡_, sym, ap, _∙_}
 use mathlib.Core.List.{List}
@@ -16,21 +17,23 @@ use Rattle.hold.specs.declared.Hold.{Hold}
 use Rattle.hold.specs.History.{Offer}
 use Rattle.hold.specs.Releases.{holdAfter, releases}
 use Rattle.search.specs.Search.{searchCount, offersFrom}
-use Rattle.rx.specs.declared.SearchPlace.{SearchPlace}
-use Rattle.rx.specs.declared.State.{State}
-use Rattle.rx.specs.Receiver.{Receiver, placeOr, searchFrom, placeAfter, Feed, Fed, fed}
+use Rattle.state.specs.declared.SearchPlace.{SearchPlace}
+use Rattle.state.specs.declared.State.{State}
+use Rattle.state.specs.Places.{placeOr, searchFrom, placeAfter}
+use Rattle.rx.specs.Receiver.{Receiver, Feed, Fed, fed}
 use Rattle.rx.specs.View.{view}
-use Rattle.rx.specs.Conditions.{spanEnd}
+use Rattle.state.specs.Conditions.{spanEnd}
 use Rattle.rx.specs.Sound.{Sound}
 use Rattle.rx.specs.Numbers.{placeIn, chiAfter, place-stays}
-use Rattle.rx.specs.After.{base-below, Then, then, sound-after}
+use Rattle.rx.specs.After.{base-below, NumbersAfter, numbers-after, sound-after}
 use Rattle.modem.specs.Ideal.{chiRow, receiverOf}
 use Rattle.modem.proofs.Chain.{Placed, placed-next, fedOf, feed-is}
 
 module _ (l : Layout) (start : ℕ) (x : ℕ → Complex) (b : ℕ → Feed) where
   -- the receiver of the rows that has the state's numbers
   abbrev pub shownBy : State → Receiver
-  shownBy s = receiverOf l start x b (s .samples .base .0) (spanEnd (s .samples)) (s .filtered .base .0) (s .search) (s .hold)
+  shownBy s = receiverOf l start x b (s .samples .base .0) (spanEnd (s .samples)) (s .filtered .base .0) (s .search)
+      (s .hold)
 
   pub record Reached (s : State) (memory : List Float) : Type 0 where
     pub sound : Sound l s
@@ -43,10 +46,12 @@ module _ (l : Layout) (start : ℕ) (x : ℕ → Complex) (b : ℕ → Feed) whe
   abbrev pub rowOffers : ℕ → ℕ → List Offer
   rowOffers p n = offersFrom (chiRow l start x b) p n
 
-  pub filtered-end : (s : State) (memory : List Float) → Reached s memory → spanEnd (s .filtered) ≡ filteredEnd l start (spanEnd (s .samples))
+  pub filtered-end : (s : State) (memory : List Float) → Reached s memory → spanEnd (s .filtered)
+      ≡ filteredEnd l start (spanEnd (s .samples))
   filtered-end s memory w = rw (w .start-is) at (w .sound .filtered-end)
 
-  placed-of : (s : State) (memory : List Float) → Reached s memory → Placed l start (s .samples .base .0) (spanEnd (s .samples)) (s .filtered .base .0)
+  placed-of : (s : State) (memory : List Float) → Reached s memory
+      → Placed l start (s .samples .base .0) (spanEnd (s .samples)) (s .filtered .base .0)
   placed-of s memory w =
       let e = filtered-end s memory w in
       record {
@@ -61,14 +66,17 @@ module _ (l : Layout) (start : ℕ) (x : ℕ → Complex) (b : ℕ → Feed) whe
       span-order b n = omega arith
 
   -- where the search goes on after n positions
-  place-next : (s : SearchPlace) (fb fb′ n : ℕ) → searchFrom s fb′ ≡ searchFrom s fb → searchFrom (placeAfter s (searchFrom s fb) n) fb′ ≡ searchFrom s fb + 2 * n
+  place-next : (s : SearchPlace) (fb fb′ n : ℕ) → searchFrom s fb′ ≡ searchFrom s fb
+      → searchFrom (placeAfter s (searchFrom s fb) n) fb′ ≡ searchFrom s fb + 2 * n
   place-next s fb fb′ zero e = rw e (omega arith)
-  place-next s fb fb′ (suc n) e = even-place (searchFrom s fb) fb′ n (even-up (max (placeOr s (fb + 32)) (fb + 32))) (base-below s fb′ (searchFrom s fb) e)
+  place-next s fb fb′ (suc n) e = even-place (searchFrom s fb) fb′ n (even-up (max (placeOr s (fb + 32)) (fb + 32)))
+      (base-below s fb′ (searchFrom s fb) e)
     where
       even-up : (y : ℕ) → (y + y % 2) % 2 ≡ 0
       even-up y = omega arith
 
-      even-place : (p c n : ℕ) → p % 2 ≡ 0 → c + 32 ≤ p → max (p + 2 * suc n) (c + 32) + max (p + 2 * suc n) (c + 32) % 2 ≡ p + 2 * suc n
+      even-place : (p c n : ℕ) → p % 2 ≡ 0 → c + 32 ≤ p
+          → max (p + 2 * suc n) (c + 32) + max (p + 2 * suc n) (c + 32) % 2 ≡ p + 2 * suc n
       even-place p c n h k = omega arith
 
   same : (sb sc se sf fb fc : ℕ) (p q : SearchPlace) (h k : Hold) → sb ≡ sc → se ≡ sf → fb ≡ fc → p ≡ q → h ≡ k
@@ -76,31 +84,37 @@ module _ (l : Layout) (start : ℕ) (x : ℕ → Complex) (b : ℕ → Feed) whe
   same sb sc se sf fb fc p q h k u v w y z = rw (u, v, w, y, z)
 
   -- what an accepted feed of k samples makes of a reached state
-  pub record Stepped (s : State) (memory : List Float) (f : Feed) (s′ : State) (memory′ : List Float) (n : ℕ) : Type 0 where
-    pub reached : Reached s′ memory′
-    pub ends : spanEnd (s′ .samples) ≡ spanEnd (s .samples) + length (f .samples)
-    pub place : placeIn s′ ≡ placeIn s + 2 * n
-    pub hold : s′ .hold ≡ holdAfter (s .hold) (rowOffers (placeIn s) n)
-    pub released : fed l f (view l s memory) .released ≡ releases (s .hold) (rowOffers (placeIn s) n)
+  pub record Stepped (s : State) (memory : List Float) (f : Feed) (s′ : State) (memory′ : List Float) (n : ℕ) : Type 0
+    where
+      pub reached : Reached s′ memory′
+      pub ends : spanEnd (s′ .samples) ≡ spanEnd (s .samples) + length (f .samples)
+      pub place : placeIn s′ ≡ placeIn s + 2 * n
+      pub hold : s′ .hold ≡ holdAfter (s .hold) (rowOffers (placeIn s) n)
+      pub released : fed l f (view l s memory) .released ≡ releases (s .hold) (rowOffers (placeIn s) n)
 
-  module _ (i : IsLayout l) (s s′ : State) (memory memory′ : List Float) (f : Feed) (w : Reached s memory) (few : length (f .samples) ≤ 4000)
-      (soon : spanEnd (s .samples) + length (f .samples) ≤ 2 ^ 48) (new : f .samples ≡ window x (spanEnd (s .samples)) (length (f .samples)))
+  module _ (i : IsLayout l) (s s′ : State) (memory memory′ : List Float) (f : Feed) (w : Reached s memory)
+      (few : length (f .samples) ≤ 4000)
+      (soon : spanEnd (s .samples) + length (f .samples) ≤ 2 ^ 48)
+      (new : f .samples ≡ window x (spanEnd (s .samples)) (length (f .samples)))
       (by : (m : ℕ) → spanEnd (s .samples) ≤ m → m < spanEnd (s .samples) + length (f .samples) → b m ≡ f)
-      (hz : s′ .bandwidth ≡ s .bandwidth) (rec : s′ .rec ≡ s .rec) (e : view l s′ memory′ ≡ fed l f (view l s memory) .receiver) where
+      (hz : s′ .bandwidth ≡ s .bandwidth) (rec : s′ .rec ≡ s .rec)
+      (e : view l s′ memory′ ≡ fed l f (view l s memory) .receiver) where
     abbrev after : Fed
-    after = fedOf l start x b (s .samples .base .0) (spanEnd (s .samples)) (s .filtered .base .0) (length (f .samples)) (s .search) (s .hold)
+    after = fedOf l start x b (s .samples .base .0) (spanEnd (s .samples)) (s .filtered .base .0)
+        (length (f .samples)) (s .search) (s .hold)
 
     fed-is : fed l f (view l s memory) ≡ after
     fed-is =
         ap (fed l f) (w .shows)
-        ∙ feed-is l start x b i f (s .samples .base .0) (spanEnd (s .samples)) (s .filtered .base .0) (length (f .samples)) (s .search) (s .hold) few (placed-of s memory w)
+        ∙ feed-is l start x b i f (s .samples .base .0) (spanEnd (s .samples)) (s .filtered .base .0)
+        (length (f .samples)) (s .search) (s .hold) few (placed-of s memory w)
         (rw (filtered-end s memory w) at (w .sound .searched)) new by
 
     view-is : view l s′ memory′ ≡ after .receiver
     view-is = e ∙ ap (λ (r : Fed). r .receiver) fed-is
 
-    numbers : Then l s f (chiAfter l f (view l s memory)) s′
-    numbers = then l (sized l i) s s′ memory memory′ (w .sound) f few e
+    numbers : NumbersAfter l s f (chiAfter l f (view l s memory)) s′
+    numbers = numbers-after l (sized l i) s s′ memory memory′ (w .sound) f few e
 
     place-is : s′ .search ≡ after .receiver .search
     unfolding view
@@ -110,27 +124,34 @@ module _ (l : Layout) (start : ℕ) (x : ℕ → Complex) (b : ℕ → Feed) whe
     unfolding view
     hold-is = ap (λ (r : Receiver). r .hold) view-is
 
-    base-is : s′ .filtered .base .0 ≡ trimmedBase (l .keep) (s .filtered .base .0) (filteredEnd l start (spanEnd (s .samples) + length (f .samples)))
+    base-is : s′ .filtered .base .0 ≡ trimmedBase (l .keep) (s .filtered .base .0)
+        (filteredEnd l start (spanEnd (s .samples) + length (f .samples)))
     base-is = rw (w .start-is) at (numbers .filtered-base)
 
     shows-then : view l s′ memory′ ≡ shownBy s′
     unfolding fedOf receiverOf
-    shows-then = view-is ∙ same _ _ _ _ _ _ _ _ _ _ (sym (numbers .samples-base)) (sym (numbers .samples-end)) (sym base-is) (sym place-is) (sym hold-is)
+    shows-then = view-is ∙ same _ _ _ _ _ _ _ _ _ _ (sym (numbers .samples-base)) (sym (numbers .samples-end))
+        (sym base-is) (sym place-is) (sym hold-is)
 
     abbrev count : ℕ
     count = searchCount l (placeIn s) (filteredEnd l start (spanEnd (s .samples) + length (f .samples)))
 
-    placed-then : Placed l start (trimmedBase (l .keep) (s .samples .base .0) (spanEnd (s .samples) + length (f .samples))) (spanEnd (s .samples) + length (f .samples))
-        (trimmedBase (l .keep) (s .filtered .base .0) (filteredEnd l start (spanEnd (s .samples) + length (f .samples))))
-    placed-then = placed-next l start x b (sized l i) (s .samples .base .0) (spanEnd (s .samples)) (s .filtered .base .0) (length (f .samples)) few (placed-of s memory w)
+    placed-then : Placed l start (trimmedBase (l .keep) (s .samples .base .0)
+        (spanEnd (s .samples) + length (f .samples))) (spanEnd (s .samples) + length (f .samples))
+        (trimmedBase (l .keep) (s .filtered .base .0) (filteredEnd l start
+        (spanEnd (s .samples) + length (f .samples))))
+    placed-then = placed-next l start x b (sized l i) (s .samples .base .0) (spanEnd (s .samples))
+        (s .filtered .base .0) (length (f .samples)) few (placed-of s memory w)
 
     end-is : spanEnd (s′ .filtered) ≡ filteredEnd l start (spanEnd (s .samples) + length (f .samples))
     end-is = rw (w .start-is) at (numbers .filtered-end)
 
-    stays : searchFrom (s .search) (trimmedBase (l .keep) (s .filtered .base .0) (filteredEnd l start (spanEnd (s .samples) + length (f .samples)))) ≡ placeIn s
+    stays : searchFrom (s .search) (trimmedBase (l .keep) (s .filtered .base .0)
+        (filteredEnd l start (spanEnd (s .samples) + length (f .samples)))) ≡ placeIn s
     stays = rw (w .start-is) at (place-stays l (sized l i) s memory (w .sound) f few)
 
-    pub stepped : Stepped s memory f s′ memory′ (searchCount l (placeIn s) (filteredEnd l start (spanEnd (s .samples) + length (f .samples))))
+    pub stepped : Stepped s memory f s′ memory′ (searchCount l (placeIn s)
+        (filteredEnd l start (spanEnd (s .samples) + length (f .samples))))
     unfolding fedOf receiverOf
     stepped =
         record {

@@ -27,13 +27,23 @@ own : (a : FeedAnswer) (rs : List FeedAnswer) (p : Position) → releasedAt a �
 unfolding releasedAt detections released
 own (Refused f) rs p e = absurd (let z : _≡_ {A = ℕ} 0 1 = cc in omega arith)
 own (Accepted NoRelease) rs p e = absurd (let z : _≡_ {A = ℕ} 0 1 = cc in omega arith)
-own (Accepted (Released q m)) rs p e = record { detection = record { position = q; metric = m }; there = List·Memᴰ·head refl; position = cc }
+own (Accepted (Released q m)) rs p e =
+    record {
+      detection = record { position = q; metric = m };
+      there = List·Memᴰ·head refl;
+      position = cc;
+    }
 
 earlier : (a : FeedAnswer) (rs : List FeedAnswer) (p : Position) → There rs p → There (a ∷ rs) p
 unfolding detections released
 earlier (Refused f) rs p w = record { detection = w .detection; there = w .there; position = w .position }
 earlier (Accepted NoRelease) rs p w = record { detection = w .detection; there = w .there; position = w .position }
-earlier (Accepted (Released q m)) rs p w = record { detection = w .detection; there = List·Memᴰ·tail (w .there); position = w .position }
+earlier (Accepted (Released q m)) rs p w =
+    record {
+      detection = w .detection;
+      there = List·Memᴰ·tail (w .there);
+      position = w .position;
+    }
 
 last-there : (a b : FeedAnswer) (p : Position) → later (releasedAt a) (releasedAt b) ≡ At p → There (a ∷ b ∷ []) p
 unfolding later
@@ -47,7 +57,8 @@ pub run-read : RunRead
 unfolding RunRead Demand3
 run-read o gs a b b′ t p r n w m v =
     let d : There (t .first ∷ t .second ∷ []) p = last-there (t .first) (t .second) p (w .1 .0) in
-    demand-3 (sessionOf o gs (b .memory) t (b′ .memory) (w .0)) (d .detection) (d .there) (a (p .0)) r (b′ .scratch) (b′ .out)
+    demand-3 (sessionOf o gs (b .memory) t (b′ .memory) (w .0)) (d .detection) (d .there) (a (p .0)) r (b′ .scratch)
+    (b′ .out)
     (record {
       position = n (p .0) ∙ ap (λ (x : Position). x .0) (sym (d .position));
       scratch-lent = b .scratch;

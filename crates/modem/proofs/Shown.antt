@@ -13,8 +13,8 @@ use Rattle.level.specs.SizedLaws.{sized}
 use Rattle.track.specs.declared.Span.{Span}
 use Rattle.track.specs.Memory.{partLength, filteredPart, stepPart, powerPart, trackIn}
 use Rattle.hold.specs.declared.Hold.{Hold}
-use Rattle.rx.specs.declared.SearchPlace.{SearchPlace}
-use Rattle.rx.specs.declared.State.{State}
+use Rattle.state.specs.declared.SearchPlace.{SearchPlace}
+use Rattle.state.specs.declared.State.{State}
 use Rattle.rx.specs.Receiver.{Carrier, carrierOf}
 use Rattle.rx.specs.View.{carrierIn, view}
 use Rattle.rx.specs.Numbers.{carrier-in}
@@ -22,15 +22,27 @@ use Rattle.modem.specs.FedAll.{spanOf, stateOf}
 
 abbrev stateWith : ℕ → ℕ → Position → Span → Span → Span → Span → SearchPlace → Hold → State
 stateWith hz rec start a b c d p h =
-    record { bandwidth = hz; rec = rec; start = start; samples = a; filtered = b; step = c; power = d; search = p; hold = h }
+    record {
+      bandwidth = hz;
+      rec = rec;
+      start = start;
+      samples = a;
+      filtered = b;
+      step = c;
+      power = d;
+      search = p;
+      hold = h;
+    }
 
 with-same : {hz hz′ rec rec′ : ℕ} {start : Position} {a a′ b b′ c c′ d d′ : Span} {p : SearchPlace} {h : Hold}
-    → hz ≡ hz′ → rec ≡ rec′ → a ≡ a′ → b ≡ b′ → c ≡ c′ → d ≡ d′ → stateWith hz rec start a b c d p h ≡ stateWith hz′ rec′ start a′ b′ c′ d′ p h
+    → hz ≡ hz′ → rec ≡ rec′ → a ≡ a′ → b ≡ b′ → c ≡ c′ → d ≡ d′ → stateWith hz rec start a b c d p h
+    ≡ stateWith hz′ rec′ start a′ b′ c′ d′ p h
 with-same u v e f g k = cc
 
 span-shown : (l : Layout) (memory : List Float) (k : ℕ) (a : Span) → a ≡ spanOf (trackIn l memory k a)
 unfolding trackIn
-span-shown l memory k a = ap (λ (n : ℕ). record { base = a .base; len = n }) (sym (complexes-length memory (k * partLength l) (a .len)))
+span-shown l memory k a = ap (λ (n : ℕ). record { base = a .base; len = n })
+    (sym (complexes-length memory (k * partLength l) (a .len)))
 
 module _ (l : Layout) (i : IsLayout l) (s : State) (memory : List Float) where
   first : carrierIn l s memory 0 ≡ carrierOf (view l s memory .carriers) 0

@@ -1,4 +1,5 @@
--- The sign law: g finite and above 0 bounds every received step, so each soft bit's sign is a bit of the nearest label. Assumes nothing.
+-- The sign law: g finite and above 0 bounds every received step, so each soft bit's sign is a bit of the nearest
+-- label. Assumes nothing.
 use Prim.Native.Nat.{ℕ, _+_, _-_, _*_, _^_, _≤_, _<_}
 use mathlib.Core.Path.{_≡_, ap, _∙_}
 use mathlib.Core.List.{List}
@@ -37,7 +38,8 @@ steps-few n s h k g =
     let b : 1 * (s - 1) ≤ n * (s - 1) = mul-le-mul-right (s - 1) (omega arith) in
     (omega arith, omega arith)
 
-module _ (l : Layout) (o : IsLayout l) (table : List ℕ) (M : Markers l table) (z : List Complex) (G : T (positive (gainOf l table z))) where
+module _ (l : Layout) (o : IsLayout l) (table : List ℕ) (M : Markers l table) (z : List Complex)
+    (G : T (positive (gainOf l table z))) where
   size : Sized l
   size = sized l o
 
@@ -46,7 +48,8 @@ module _ (l : Layout) (o : IsLayout l) (table : List ℕ) (M : Markers l table) 
   unfolding receivedIn divided gainOf
   received-near c s C p S =
       let n = steps-few (l .nc) (l .nsym) (size .nc-least) (size .nsym-least) (size .symbols-most) in
-      gain-near (undivided l table z) (stepCount l) (n .0) (n .1) G _ (row-in (l .nc) (l .nsym - 1) c (s - 1) C (omega arith))
+      gain-near (undivided l table z) (stepCount l) (n .0) (n .1) G _
+      (row-in (l .nc) (l .nsym - 1) c (s - 1) C (omega arith))
 
   pub variance : Variance (varianceOf l table z)
   unfolding varianceOf varianceIn
@@ -71,7 +74,8 @@ module _ (l : Layout) (o : IsLayout l) (table : List ℕ) (M : Markers l table) 
       → signBit (softAt l table z (i * l .bps + b)) ≡ labelBit (l .bps) b (nearestLabel l (receivedAt l table z i))
   soft-sign i b I B =
       ap signBit (soft-is l table z i b B)
-      ∙ psk-sign (l .bps) (size .bps-least) (size .bps-most) b (receivedAt l table z i) (varianceOf l table z) B (cell-near i I) variance
+      ∙ psk-sign (l .bps) (size .bps-least) (size .bps-most) b (receivedAt l table z i) (varianceOf l table z) B
+      (cell-near i I) variance
 
 pub signs-read : SignsRead
 unfolding SignsRead softBits

@@ -5,7 +5,8 @@ use mathlib.Core.List.{_++_}
 use native.Mathlib.Omega.{arith}
 use lib.ListN.{drop}
 use Rattle.complex.specs.declared.Complex.{Complex}
-use Rattle.track.specs.Window.{window, length-window, getD-window, window-ext, window-append, window-drop}
+use Rattle.track.specs.Window.{window}
+use Rattle.track.specs.WindowLaws.{length-window, getD-window, window-ext, window-append, window-drop}
 use Rattle.track.specs.Track.{endOf, valueAt, trimmedBase, append}
 use Rattle.track.specs.Values.{value-from}
 use Rattle.track.specs.Trims.{Trimmed, trimmed}
@@ -41,4 +42,12 @@ unfolding append part
 part-append keep f g b e n h s =
     let p : b + (e - b) + n ≡ e + n = omega arith in
     let c : Trimmed keep b (e + n) (trimmedBase keep b (e + n)) = trimmed keep b (e + n) (omega arith) in
-    rw (length-window, length-window, p, window-ext g f e n s, window-join f b e n h, window-rest f b (trimmedBase keep b (e + n)) (e + n) (c .least) (omega arith))
+    rw (
+      length-window,
+      length-window,
+      p,
+      window-ext g f e n s,
+      window-join f b e n h,
+      window-rest f b
+          (trimmedBase keep b (e + n)) (e + n) (c .least) (omega arith),
+    )

@@ -10,7 +10,7 @@ use Rattle.psk.specs.declared.Sent.the-variants as sent
 use Rattle.psk.specs.Symbols.{Sending}
 use Rattle.psk.specs.Send.{Modulated}
 use Rattle.hold.specs.History.{Detection}
-use Rattle.rx.specs.declared.State.{State}
+use Rattle.state.specs.declared.State.{State}
 use Rattle.reading.specs.declared.Reading.{Reading}
 use Rattle.reading.specs.declared.ReadAnswer.the-variants as rd
 use Rattle.reading.specs.Read.{Asked, ReadBy}

@@ -5,7 +5,7 @@ use lib.ListN.{length}
 use Rattle.level.specs.declared.Layout.{Layout}
 use Rattle.track.specs.declared.Span.{Span}
 use Rattle.track.specs.Track.{Track}
-use Rattle.rx.specs.declared.State.{State}
+use Rattle.state.specs.declared.State.{State}
 use Rattle.rx.specs.Receiver.{Receiver, opened, carrierOf, Feed, fed}
 
 -- receiver r after accepted feeds: each goes on with the tracks, the search place and the hold that the one before

@@ -13,12 +13,12 @@ use Rattle.level.specs.Rows.{IsLayout}
 use Rattle.dat.specs.Tables.{tableFault}
 use Rattle.hold.specs.Offer.{freshHold}
 use Rattle.hold.specs.Releases.{releases}
-use Rattle.rx.specs.declared.State.{State}
+use Rattle.state.specs.declared.State.{State}
 use Rattle.rx.specs.declared.FeedAnswer.{FeedAnswer}
 use Rattle.rx.specs.Receiver.{Receiver, Feed}
 use Rattle.rx.specs.View.{view}
 use Rattle.rx.specs.Open.{openedState}
-use Rattle.rx.specs.Conditions.{spanEnd, wrongBook, wrongState}
+use Rattle.state.specs.Conditions.{spanEnd, wrongBook, wrongState}
 use Rattle.rx.specs.Feed.{Given}
 use Rattle.modem.specs.Ideal.{accepted, verdicts, joined, sampleRow, broughtBy, receiverOf, offersOf}
 use Rattle.modem.specs.Calls.{detections, answersOf}
@@ -58,8 +58,8 @@ pub record Follows (l : Layout) (start : ℕ) (gs : List Given) (s : State) (mem
   pub released : detections rs ≡ releases (freshHold 8 (l .dead)) (offersOf l start (accepted l start gs))
 
 -- where the memory has another length every feed is refused: by 17, or by a row before it
-unfoldable pub withoutRoom : Given → Outcome (Unit {0})
-withoutRoom g =
+unfoldable pub wrongMemoryVerdict : Given → Outcome (Unit {0})
+wrongMemoryVerdict g =
     andThen (chosen (g .bandwidth) (g .rec))
     (λ k.
     judged
@@ -72,5 +72,5 @@ pub record AllRefused (s : State) (memory : List Float) (gs : List Given)
     (s′ : State) (memory′ : List Float) (rs : List FeedAnswer) : Type 0 where
   pub state : s′ ≡ s
   pub memory-is : memory′ ≡ memory
-  pub answers : answersOf rs ≡ map withoutRoom gs
+  pub answers : answersOf rs ≡ map wrongMemoryVerdict gs
   pub released : detections rs ≡ []

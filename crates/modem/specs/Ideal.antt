@@ -23,8 +23,8 @@ use Rattle.hold.specs.declared.Hold.{Hold}
 use Rattle.hold.specs.History.{Offer}
 use Rattle.search.specs.Chi.{chiAt}
 use Rattle.search.specs.Search.{evenUp, reach, searchCount, offersFrom}
-use Rattle.rx.specs.declared.SearchPlace.{SearchPlace}
-use Rattle.rx.specs.Conditions.{otherNumbers, wrongBook, wrongSamples, wrongFirst, wrongParts}
+use Rattle.state.specs.declared.SearchPlace.{SearchPlace}
+use Rattle.state.specs.Conditions.{otherNumbers, wrongBook, wrongSamples, wrongNumber, wrongParts}
 use Rattle.rx.specs.Receiver.{Carrier, Receiver, Feed}
 use Rattle.rx.specs.Feed.{Given, feedOf}
 
@@ -42,7 +42,7 @@ inputFault l e g k =
     ((no.TurnBook, wrongBook (g .book)) ∷
     (no.State, otherCall l k) ∷
     (no.SampleCount, wrongSamples (length (g .samples))) ∷
-    (no.SampleNumber, wrongFirst e (g .number) (length (g .samples) / 2)) ∷
+    (no.SampleNumber, wrongNumber e (g .number) (length (g .samples) / 2)) ∷
     (no.SampleSize, wrongParts (g .samples)) ∷
     []))
 

@@ -2,11 +2,13 @@ pub mod Ideal
 pub mod Calls
 pub mod FedAll
 pub mod Follows
+pub mod FeedsFollow
 pub mod StateFollows
 pub mod Received
 pub mod LocateFollows
 pub mod FrameRead
 pub mod Signs
 pub mod Demand3
+pub mod Marked
 pub mod Run
 pub mod RunRead

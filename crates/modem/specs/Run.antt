@@ -6,7 +6,7 @@ use lib.Ieee.{Float}
 use Rattle.refusal.specs.Refusal.{numberOf}
 use Rattle.refusal.specs.Outcome.{Outcome, refused, answered}
 use Rattle.hold.specs.declared.Release.the-variants.{NoRelease, Released}
-use Rattle.rx.specs.declared.State.{State}
+use Rattle.state.specs.declared.State.{State}
 use Rattle.rx.specs.declared.FeedAnswer.{FeedAnswer}
 use Rattle.rx.specs.declared.FeedAnswer.the-variants as feed
 use Rattle.rx.specs.Open.{openOutcome}

@@ -1,26 +1,10 @@
 -- Which state and which tracks calls of `feed` leave, by the opening and the accepted feeds alone. Definitions only.
-use Prim.Native.Nat.{_*_}
 use mathlib.Core.Path.{_≡_}
-use mathlib.Core.List.{List}
-use lib.ListN.{length}
-use Rattle.refusal.specs.Outcome.{answered}
 use Rattle.level.specs.declared.Layout.{Layout}
-use Rattle.level.specs.Lengths.{memoryLength}
-use Rattle.level.specs.Layout.{chosen}
-use Rattle.rx.specs.Receiver.{Feed}
 use Rattle.rx.specs.View.{view}
-use Rattle.modem.specs.Ideal.{accepted}
 use Rattle.modem.specs.Calls.{Session}
 use Rattle.modem.specs.FedAll.{fedAll, stateOf}
-
--- an opening of layout l, and a memory of its length
-pub record InRoom (h : Session) (l : Layout) : Type 0 where
-  pub chosen-is : chosen (h .bandwidth) (h .rec) ≡ answered l
-  pub room : length (h .lent) ≡ 2 * memoryLength l
-
--- the accepted ones of its calls
-abbrev pub acceptedIn : Session → Layout → List Feed
-acceptedIn h l = accepted l (h .start) (h .given)
+use Rattle.modem.specs.FeedsFollow.{InRoom, acceptedIn}
 
 -- calls leave what the accepted feeds make of the opening, one after the other, whatever the memory held: all numbers
 -- of the state, and every value of every track

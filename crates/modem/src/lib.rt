@@ -1,4 +1,5 @@
-// The modem's two ends together: what holds over every list of feeds (01, "Search and hold", "Reading") stands in specs/ and proofs/.
+// The modem's two ends together: what holds over every list of feeds (01, "Search and hold", "Reading") stands in
+// specs/ and proofs/.
 ghost use mathlib.Core.Path.{_≡_};
 ghost use mathlib.Core.List.{[], _∷_};
 ghost use Rattle.rx.specs.Feed.{given};
@@ -11,7 +12,7 @@ use refusal::Position;
 use refusal::Refusal;
 use rx::FeedAnswer;
 use rx::OpenAnswer;
-use rx::State;
+use state::State;
 
 // What two feeds in a row come to.
 pub struct FedTwice {
@@ -55,7 +56,10 @@ fn feed_twice(
     next_number: Position,
     next_samples: &[f64],
 ) -> FedTwice
-    ensures { λ r. ⌜ Calls s (now (memory .entry)) (given bandwidth rec (now (markers .entry)) (now (phasors .entry)) (now (book .entry)) (number .0) (now (samples .entry)) ∷ (given bandwidth rec (now («next_markers» .entry)) (now («next_phasors» .entry)) (now («next_book» .entry)) («next_number» .0) (now («next_samples» .entry)) ∷ [])) (r .state) (now (memory .exit)) (r .first ∷ (r .second ∷ [])) ⌝ }
+    ensures { λ r. ⌜ Calls s (now (memory .entry)) (given bandwidth rec (now (markers .entry)) (now (phasors .entry))
+        (now (book .entry)) (number .0) (now (samples .entry)) ∷ (given bandwidth rec (now («next_markers» .entry))
+        (now («next_phasors» .entry)) (now («next_book» .entry)) («next_number» .0)
+        (now («next_samples» .entry)) ∷ [])) (r .state) (now (memory .exit)) (r .first ∷ (r .second ∷ [])) ⌝ }
 {
     let a = rx::feed(
         bandwidth,
@@ -125,7 +129,9 @@ fn read_last(
     scratch: &mut [f64],
     out: &mut [f64],
 ) -> LastRead
-    ensures { λ r. ⌜ ReadLast (λ t0. asked bandwidth rec (now (markers .entry)) (now (phasors .entry)) t0 (now (drift .entry))) fed (now (memory .entry)) (now (scratch .entry)) (now (out .entry)) r (now (scratch .exit)) (now (out .exit)) ⌝ }
+    ensures { λ r. ⌜ ReadLast (λ t0. asked bandwidth rec (now (markers .entry)) (now (phasors .entry)) t0
+        (now (drift .entry))) fed (now (memory .entry)) (now (scratch .entry)) (now (out .entry)) r
+        (now (scratch .exit)) (now (out .exit)) ⌝ }
 {
     let state = fed.state;
     let first = fed.first;
@@ -151,8 +157,8 @@ fn read_last(
     }
 }
 
-// Opens a receiver, feeds it twice, each time with other tables and another turn book, and reads at the last release with the
-// second feed's tables: calls make such sessions as demand 3 speaks of.
+// Opens a receiver, feeds it twice, each time with other tables and another turn book, and reads at the last release
+// with the second feed's tables: calls make such sessions as demand 3 speaks of.
 pub fn open_feed_read(
     bandwidth: u32,
     rec: u32,
@@ -171,7 +177,14 @@ pub fn open_feed_read(
     scratch: &mut [f64],
     out: &mut [f64],
 ) -> RunAnswer
-    ensures { λ r. ⌜ RunBy (opening bandwidth rec (now (markers .entry)) (now (phasors .entry)) (start .0) (now (book .entry))) (given bandwidth rec (now (markers .entry)) (now (phasors .entry)) (now (book .entry)) (start .0) (now (samples .entry)) ∷ (given bandwidth rec (now («next_markers» .entry)) (now («next_phasors» .entry)) (now («next_book» .entry)) («next_number» .0) (now («next_samples» .entry)) ∷ [])) (λ t0. asked bandwidth rec (now («next_markers» .entry)) (now («next_phasors» .entry)) t0 (now (drift .entry))) (buffers (now (memory .entry)) (now (scratch .entry)) (now (out .entry))) r (buffers (now (memory .exit)) (now (scratch .exit)) (now (out .exit))) ⌝ }
+    ensures { λ r. ⌜ RunBy (opening bandwidth rec (now (markers .entry)) (now (phasors .entry)) (start .0)
+        (now (book .entry))) (given bandwidth rec (now (markers .entry)) (now (phasors .entry)) (now (book .entry))
+        (start .0) (now (samples .entry)) ∷ (given bandwidth rec (now («next_markers» .entry))
+        (now («next_phasors» .entry)) (now («next_book» .entry)) («next_number» .0)
+        (now («next_samples» .entry)) ∷ [])) (λ t0. asked bandwidth rec (now («next_markers» .entry))
+        (now («next_phasors» .entry)) t0 (now (drift .entry)))
+        (buffers (now (memory .entry)) (now (scratch .entry)) (now (out .entry))) r
+        (buffers (now (memory .exit)) (now (scratch .exit)) (now (out .exit))) ⌝ }
 {
     let opened = rx::open(bandwidth, rec, markers, phasors, start, book);
     match opened {

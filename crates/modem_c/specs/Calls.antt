@@ -33,12 +33,14 @@ use Rattle.hold.specs.declared.Release.the-variants.{NoRelease, Released}
 use Rattle.hold.specs.declared.LoneAnswer.{LoneAnswer}
 use Rattle.hold.specs.declared.LoneAnswer.the-variants.{Refused}
 use Rattle.hold.specs.LoneOffer.{outcome, LoneOffers}
-use Rattle.rx.specs.declared.State.{State}
+use Rattle.state.specs.declared.State.{State}
 use Rattle.rx.specs.declared.FeedAnswer.{FeedAnswer}
 use Rattle.rx.specs.declared.FeedAnswer.the-variants as feed
-use Rattle.rx.specs.Open.{openedState, startFault}
+use Rattle.state.specs.Faults.{startFault}
+use Rattle.rx.specs.Open.{openedState}
 use Rattle.rx.specs.Feed.{Given, FedBy}
-use Rattle.modem_c.specs.Numbers.{layoutNumbers, stateOf, numbersOf, metricOf, holdAt, holdNumbers, heldMetric, position}
+use Rattle.modem_c.specs.Numbers.{layoutNumbers, stateOf, numbersOf, metricOf, holdAt, holdNumbers, heldMetric}
+use Rattle.modem_c.specs.Numbers.{position}
 
 -- ---- answers as numbers
 -- 0, or the number of the first condition met
@@ -76,9 +78,11 @@ NcoPhaseCall hz rec window phases out code phases′ out′ =
     HandsOn windowCode (λ a. NcoPhase (chosen hz rec) window phases out a phases′ out′) code
 
 -- the window's samples: `audio::carrier_audio`
-abbrev pub CarrierAudioCall : ℕ → ℕ → ℕ → List Float → ℕ → ℕ → List Float → List Float → List Float → ℕ → List Float → List Float → Type 0
+abbrev pub CarrierAudioCall : ℕ → ℕ → ℕ → List Float → ℕ → ℕ → List Float → List Float → List Float
+    → ℕ → List Float → List Float → Type 0
 CarrierAudioCall hz rec frames symbols place window waves phases out code phases′ out′ =
-    HandsOn windowCode (λ a. CarrierAudio (chosen hz rec) frames symbols place window waves phases out a phases′ out′) code
+    HandsOn windowCode (λ a. CarrierAudio (chosen hz rec) frames symbols place window waves phases out a phases′ out′)
+    code
 
 -- the payload bits of soft bits: `meter::payload_bits`
 abbrev pub PayloadBitsCall : ℕ → ℕ → List Float → List ℕ → ℕ → List ℕ → Type 0
@@ -114,7 +118,8 @@ openedInto hz rec markers phasors start book state =
     (answered (openedState l start)))
 
 -- its numbers are written only where it opens
-pub record OpenCall (hz rec : ℕ) (markers : List ℕ) (phasors : List Float) (start : ℕ) (book : List Float) (state : List ℕ) (metric : Float) (code : ℕ) (state′ : List ℕ) (metric′ : Float) : Type 0 where
+pub record OpenCall (hz rec : ℕ) (markers : List ℕ) (phasors : List Float) (start : ℕ) (book : List Float)
+    (state : List ℕ) (metric : Float) (code : ℕ) (state′ : List ℕ) (metric′ : Float) : Type 0 where
   pub code-is : code ≡ codeOf (openedInto hz rec markers phasors start book state)
   pub state-is : state′ ≡ after (openedInto hz rec markers phasors start book state) numbersOf state
   pub metric-is : metric′ ≡ after (openedInto hz rec markers phasors start book state) metricOf metric
@@ -150,8 +155,9 @@ abbrev pub feedRelease : FeedAnswer → Outcome Release
 feedRelease (feed.Accepted r) = answered r
 feedRelease (feed.Refused f) = refused (numberOf f)
 
--- a feed to the state that the lent numbers say: its answer and the state after it, as the numbers that are handed over
-pub record FeedCall (g : Given) (lent : LentState) (memory : List Float) (release : LentRelease) (code : ℕ) (lent′ : LentState) (memory′ : List Float) (release′ : LentRelease) : Type 0 where
+-- a feed to the state that the lent numbers say: its answer and the state after it, as the numbers handed over
+pub record FeedCall (g : Given) (lent : LentState) (memory : List Float) (release : LentRelease) (code : ℕ)
+    (lent′ : LentState) (memory′ : List Float) (release′ : LentRelease) : Type 0 where
   pub answer : FeedAnswer
   pub next : State
   pub fed : FedBy g (stateOf (lent .numbers) (lent .metric)) memory answer next memory′
@@ -160,17 +166,19 @@ pub record FeedCall (g : Given) (lent : LentState) (memory : List Float) (releas
   pub release-is : release′ ≡ after (feedRelease answer) (λ r. releaseAfter r release) release
 
 -- ---- a lone offer
--- "with a candidate's metric where has_metric isn't 0"
+-- dimpstea.h: "with a candidate's metric where has_metric isn't 0"
 abbrev pub candidateOf : ℕ → Float → Candidate
 candidateOf has m = cond (eqb has 0) NoCandidate (Metric m)
 
 -- a hold of six numbers is offered to; one of another length is refused with 21
 abbrev pub Offers : Bool → LentState → ℕ → ℕ → Float → LoneAnswer → Hold → Type 0
-Offers true lent p has m answer next = LoneOffers (holdAt 0 (lent .numbers) (lent .metric)) (position p) (candidateOf has m) answer next
+Offers true lent p has m answer next =
+    LoneOffers (holdAt 0 (lent .numbers) (lent .metric)) (position p) (candidateOf has m) answer next
 Offers false lent p has m answer next = answer ≡ Refused no.Offer
 
 -- an offer to a hold: its answer and the hold after it, as the numbers that are handed over
-pub record OfferCall (lent : LentState) (p has : ℕ) (m : Float) (release : LentRelease) (code : ℕ) (lent′ : LentState) (release′ : LentRelease) : Type 0 where
+pub record OfferCall (lent : LentState) (p has : ℕ) (m : Float) (release : LentRelease) (code : ℕ) (lent′ : LentState)
+    (release′ : LentRelease) : Type 0 where
   pub answer : LoneAnswer
   pub next : Hold
   pub offers : Offers (eqb (length (lent .numbers)) 6) lent p has m answer next

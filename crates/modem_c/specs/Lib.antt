@@ -1,5 +1,4 @@
 pub mod Numbers
 pub mod Calls
 pub mod ReadingCalls
-pub mod Round
-pub mod Series
+pub mod ReadBack

@@ -13,16 +13,18 @@ use Rattle.hold.specs.declared.Block.the-variants.{First, From}
 use Rattle.hold.specs.declared.Held.{Held}
 use Rattle.hold.specs.declared.Held.the-variants as held
 use Rattle.hold.specs.declared.Hold.{Hold}
-use Rattle.rx.specs.declared.SearchPlace.{SearchPlace}
-use Rattle.rx.specs.declared.SearchPlace.the-variants.{Fresh, At}
-use Rattle.rx.specs.declared.State.{State}
+use Rattle.state.specs.declared.SearchPlace.{SearchPlace}
+use Rattle.state.specs.declared.SearchPlace.the-variants.{Fresh, At}
+use Rattle.state.specs.declared.State.{State}
 use Rattle.modem_c.specs.declared.numbers.Optional.{Optional}
 
 -- ---- a layout
--- "carriers, symbols of a frame, markers of a carrier, bits of a cell, nsym, payload bits n, taps, first carrier and spacing in Hz, delay, greatest stagger, keep, dead"
+-- dimpstea.h: "carriers, symbols of a frame (spf), markers of a carrier, bits of a cell, nsym, payload bits n, taps,
+-- first carrier and spacing in Hz, delay, greatest stagger, keep, dead"
 abbrev pub layoutNumbers : Layout → List ℕ
 layoutNumbers l =
-    l .nc ∷ l .spf ∷ l .markers ∷ l .bps ∷ l .nsym ∷ l .n ∷ l .taps ∷ l .«first_hz» ∷ l .«spacing_hz» ∷ l .delay ∷ l .«max_stagger» ∷ l .keep ∷ l .dead ∷ []
+    l .nc ∷ l .spf ∷ l .markers ∷ l .bps ∷ l .nsym ∷ l .n ∷ l .taps ∷ l .«first_hz» ∷ l .«spacing_hz»
+    ∷ l .delay ∷ l .«max_stagger» ∷ l .keep ∷ l .dead ∷ []
 
 -- ---- from numbers
 -- a bandwidth or a record that no u32 holds counts as 0
@@ -33,7 +35,7 @@ narrow x = cond (ltb x (2 ^ 32)) x 0
 abbrev pub position : ℕ → Position
 position p = record { 0 = p }
 
--- where the search goes on: "Any number but 0 .. counts as 1"
+-- where the search goes on; dimpstea.h: "Any number but 0 in 11, 15 or 17 counts as 1."
 abbrev pub placeOf : ℕ → ℕ → SearchPlace
 placeOf present p = cond (eqb present 0) Fresh (At (position p))
 
@@ -74,12 +76,12 @@ stateAt ns m =
       hold = holdAt 13 ns m;
     }
 
--- the state of any numbers: of another length than 19 it is that of no numbers, whose bandwidth of 0 meets condition 17
+-- the state of any numbers: of another length than 19 it is that of no numbers, whose bandwidth of 0 meets 17
 unfoldable pub stateOf : List ℕ → Float → State
 stateOf ns m = cond (eqb (length ns) 19) (stateAt ns m) (stateAt [] m)
 
 -- ---- to numbers
--- "What is absent is stored as 0"
+-- dimpstea.h: "What is absent is stored as 0"
 abbrev pub absent : Optional
 absent = record { present = 0; position = 0 }
 
@@ -114,7 +116,9 @@ heldMetric h = bestMetric (h .best)
 -- a hold's six numbers
 abbrev pub holdNumbers : Hold → List ℕ
 holdNumbers h =
-    h .hold ∷ h .dead ∷ blockNumbers (h .block) .present ∷ blockNumbers (h .block) .position ∷ heldNumbers (h .best) .present ∷ heldNumbers (h .best) .position ∷ []
+    h .hold ∷ h .dead
+    ∷ blockNumbers (h .block) .present ∷ blockNumbers (h .block) .position
+    ∷ heldNumbers (h .best) .present ∷ heldNumbers (h .best) .position ∷ []
 
 -- a state's nineteen: its bandwidth, its record, its start, the four tracks, the search place, and its hold's six
 unfoldable pub numbersOf : State → List ℕ

@@ -13,7 +13,7 @@ use Rattle.level.specs.declared.Layout.{Layout}
 use Rattle.level.specs.Layout.{chosen}
 use Rattle.dat.specs.Tables.{tableFault}
 use Rattle.locate.specs.declared.Located.{Located}
-use Rattle.rx.specs.declared.State.{State}
+use Rattle.state.specs.declared.State.{State}
 use Rattle.reading.specs.declared.Reading.{Reading}
 use Rattle.reading.specs.Read.{Asked, locateOutcome, readBegun, readAccepted, readOutcome, scratchLeft, softLeft}
 use Rattle.modem_c.specs.Calls.{codeOf}

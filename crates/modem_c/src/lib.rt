@@ -5,7 +5,9 @@ ghost use Rattle.psk.specs.Symbols.{sending};
 ghost use Rattle.rx.specs.Feed.{given};
 ghost use Rattle.reading.specs.Read.{asked};
 ghost use Rattle.modem_c.specs.Numbers.{stateOf};
-ghost use Rattle.modem_c.specs.Calls.{sentCode, windowCode, bitsCode, candidateOf, lentRelease, lentState, LayoutCall, ModulateCall, NcoPhaseCall, CarrierAudioCall, PayloadBitsCall, MeterCall, OpenCall, FeedCall, OfferCall};
+ghost use Rattle.modem_c.specs.Calls.{sentCode, windowCode, bitsCode, candidateOf, lentRelease, lentState};
+ghost use Rattle.modem_c.specs.Calls.{LayoutCall, ModulateCall, NcoPhaseCall, CarrierAudioCall};
+ghost use Rattle.modem_c.specs.Calls.{PayloadBitsCall, MeterCall, OpenCall, FeedCall, OfferCall};
 ghost use Rattle.modem_c.specs.ReadingCalls.{shortResult, LocateCall, ReadCall};
 
 mod numbers;
@@ -84,7 +86,8 @@ pub extern "C" fn dimpstea_modulate(
     draws: &[u8],
     rows: &mut [f64],
 ) -> u32
-    ensures { λ r. ⌜ ModulateCall bandwidth rec (sending (now (markers .entry)) (now (phasors .entry)) frames (now (payload .entry)) (now (draws .entry))) (now (rows .entry)) r (now (rows .exit)) ⌝ }
+    ensures { λ r. ⌜ ModulateCall bandwidth rec (sending (now (markers .entry)) (now (phasors .entry)) frames
+        (now (payload .entry)) (now (draws .entry))) (now (rows .entry)) r (now (rows .exit)) ⌝ }
 {
     sent_code(psk::modulate(
         bandwidth,
@@ -107,7 +110,8 @@ pub extern "C" fn dimpstea_nco_phase(
     phases: &mut [f32],
     out: &mut [f32],
 ) -> u32
-    ensures { λ r. ⌜ NcoPhaseCall bandwidth rec window (now (phases .entry)) (now (out .entry)) r (now (phases .exit)) (now (out .exit)) ⌝ }
+    ensures { λ r. ⌜ NcoPhaseCall bandwidth rec window (now (phases .entry)) (now (out .entry)) r (now (phases .exit))
+        (now (out .exit)) ⌝ }
 {
     window_code(nco::nco_phase(bandwidth, rec, window, phases, out))
 }
@@ -125,7 +129,8 @@ pub extern "C" fn dimpstea_carrier_audio(
     phases: &mut [f32],
     out: &mut [f64],
 ) -> u32
-    ensures { λ r. ⌜ CarrierAudioCall bandwidth rec frames (now (symbols .entry)) place window (now (waves .entry)) (now (phases .entry)) (now (out .entry)) r (now (phases .exit)) (now (out .exit)) ⌝ }
+    ensures { λ r. ⌜ CarrierAudioCall bandwidth rec frames (now (symbols .entry)) place window (now (waves .entry))
+        (now (phases .entry)) (now (out .entry)) r (now (phases .exit)) (now (out .exit)) ⌝ }
 {
     let at = Place(place);
     window_code(audio::carrier_audio(
@@ -153,7 +158,8 @@ pub extern "C" fn dimpstea_open(
     state: &mut [u64],
     metric: &mut f64,
 ) -> u32
-    ensures { λ r. ⌜ OpenCall bandwidth rec (now (markers .entry)) (now (phasors .entry)) start (now (book .entry)) (now (state .entry)) (now (metric .entry)) r (now (state .exit)) (now (metric .exit)) ⌝ }
+    ensures { λ r. ⌜ OpenCall bandwidth rec (now (markers .entry)) (now (phasors .entry)) start (now (book .entry))
+        (now (state .entry)) (now (metric .entry)) r (now (state .exit)) (now (metric .exit)) ⌝ }
 {
     let opened = rx::open(bandwidth, rec, markers, phasors, Position(start), book);
     match opened {
@@ -194,7 +200,11 @@ pub extern "C" fn dimpstea_feed(
     release_position: &mut u64,
     release_metric: &mut f64,
 ) -> u32
-    ensures { λ r. ⌜ FeedCall (given bandwidth rec (now (markers .entry)) (now (phasors .entry)) (now (book .entry)) number (now (samples .entry))) (lentState (now (state .entry)) (now (metric .entry))) (now (memory .entry)) (lentRelease (now (released .entry)) (now («release_position» .entry)) (now («release_metric» .entry))) r (lentState (now (state .exit)) (now (metric .exit))) (now (memory .exit)) (lentRelease (now (released .exit)) (now («release_position» .exit)) (now («release_metric» .exit))) ⌝ }
+    ensures { λ r. ⌜ FeedCall (given bandwidth rec (now (markers .entry)) (now (phasors .entry)) (now (book .entry))
+        number (now (samples .entry))) (lentState (now (state .entry)) (now (metric .entry))) (now (memory .entry))
+        (lentRelease (now (released .entry)) (now («release_position» .entry)) (now («release_metric» .entry))) r
+        (lentState (now (state .exit)) (now (metric .exit))) (now (memory .exit))
+        (lentRelease (now (released .exit)) (now («release_position» .exit)) (now («release_metric» .exit))) ⌝ }
 {
     let s = numbers::state_of(state, *metric);
     let fed = rx::feed(
@@ -241,7 +251,10 @@ pub extern "C" fn dimpstea_offer(
     release_position: &mut u64,
     release_metric: &mut f64,
 ) -> u32
-    ensures { λ r. ⌜ OfferCall (lentState (now (hold .entry)) (now («held_metric» .entry))) position «has_metric» metric (lentRelease (now (released .entry)) (now («release_position» .entry)) (now («release_metric» .entry))) r (lentState (now (hold .exit)) (now («held_metric» .exit))) (lentRelease (now (released .exit)) (now («release_position» .exit)) (now («release_metric» .exit))) ⌝ }
+    ensures { λ r. ⌜ OfferCall (lentState (now (hold .entry)) (now («held_metric» .entry))) position «has_metric»
+        metric (lentRelease (now (released .entry)) (now («release_position» .entry)) (now («release_metric» .entry)))
+        r (lentState (now (hold .exit)) (now («held_metric» .exit)))
+        (lentRelease (now (released .exit)) (now («release_position» .exit)) (now («release_metric» .exit))) ⌝ }
 {
     if hold.len() != 6 {
         return refusal::number(Refusal::Offer);
@@ -291,7 +304,9 @@ pub extern "C" fn dimpstea_locate(
     t: &mut u64,
     result: &mut [f64],
 ) -> u32
-    ensures { λ r. ⌜ LocateCall (asked bandwidth rec (now (markers .entry)) (now (phasors .entry)) t0 []) (stateOf (now (state .entry)) metric) (now (memory .entry)) (now (t .entry)) (now (result .entry)) r (now (t .exit)) (now (result .exit)) ⌝ }
+    ensures { λ r. ⌜ LocateCall (asked bandwidth rec (now (markers .entry)) (now (phasors .entry)) t0 [])
+        (stateOf (now (state .entry)) metric) (now (memory .entry)) (now (t .entry)) (now (result .entry)) r
+        (now (t .exit)) (now (result .exit)) ⌝ }
 {
     if result.len() != 3 {
         return short_result(bandwidth, rec, markers, phasors);
@@ -324,7 +339,10 @@ pub extern "C" fn dimpstea_read(
     t: &mut u64,
     result: &mut [f64],
 ) -> u32
-    ensures { λ r. ⌜ ReadCall (asked bandwidth rec (now (markers .entry)) (now (phasors .entry)) t0 (now (drift .entry))) (stateOf (now (state .entry)) metric) (now (memory .entry)) (now (scratch .entry)) (now (out .entry)) (now (t .entry)) (now (result .entry)) r (now (scratch .exit)) (now (out .exit)) (now (t .exit)) (now (result .exit)) ⌝ }
+    ensures { λ r. ⌜ ReadCall (asked bandwidth rec (now (markers .entry)) (now (phasors .entry)) t0
+        (now (drift .entry))) (stateOf (now (state .entry)) metric) (now (memory .entry)) (now (scratch .entry))
+        (now (out .entry)) (now (t .entry)) (now (result .entry)) r (now (scratch .exit)) (now (out .exit))
+        (now (t .exit)) (now (result .exit)) ⌝ }
 {
     if result.len() != 6 {
         return short_result(bandwidth, rec, markers, phasors);
@@ -373,7 +391,8 @@ pub extern "C" fn dimpstea_meter(
     read: &[u8],
     differing: &mut u64,
 ) -> u32
-    ensures { λ r. ⌜ MeterCall bandwidth rec (now (sent .entry)) (now (read .entry)) (now (differing .entry)) r (now (differing .exit)) ⌝ }
+    ensures { λ r. ⌜ MeterCall bandwidth rec (now (sent .entry)) (now (read .entry)) (now (differing .entry)) r
+        (now (differing .exit)) ⌝ }
 {
     let metered = meter::meter(bandwidth, rec, sent, read);
     match metered {

@@ -2,7 +2,9 @@
 ghost use mathlib.Core.Path.{_≡_};
 ghost use Prim.Native.Nat.{_+_, _≤_};
 ghost use lib.ListN.{length};
-ghost use Rattle.modem_c.specs.Numbers.{narrow, placeOf, blockOf, heldOf, spanAt, holdAt, stateAt, stateOf, placeNumbers, blockNumbers, heldNumbers, heldMetric, holdNumbers, numbersOf, metricOf, layoutNumbers};
+ghost use Rattle.modem_c.specs.Numbers.{narrow, placeOf, blockOf, heldOf, spanAt, holdAt, stateAt, stateOf};
+ghost use Rattle.modem_c.specs.Numbers.{placeNumbers, blockNumbers, heldNumbers, heldMetric, holdNumbers};
+ghost use Rattle.modem_c.specs.Numbers.{numbersOf, metricOf, layoutNumbers};
 ghost use Rattle.modem_c.specs.Calls.{lentRelease, releaseAfter};
 ghost use Rattle.modem_c.specs.ReadingCalls.{locatedNumbers, readingNumbers};
 use hold::Block;
@@ -13,8 +15,8 @@ use level::Layout;
 use locate::Located;
 use reading::Reading;
 use refusal::Position;
-use rx::SearchPlace;
-use rx::State;
+use state::SearchPlace;
+use state::State;
 use track::Span;
 
 // A position that may be absent: 1 and the position, or 0 and 0.
@@ -280,7 +282,8 @@ pub fn write_hold(hold: &mut [u64], metric: &mut f64, h: Hold)
 }
 
 pub fn write_release(release: Release, released: &mut u64, position: &mut u64, metric: &mut f64)
-    ensures { λ _. ⌜ lentRelease (now (released .exit)) (now (position .exit)) (now (metric .exit)) ≡ releaseAfter release (lentRelease (now (released .entry)) (now (position .entry)) (now (metric .entry))) ⌝ }
+    ensures { λ _. ⌜ lentRelease (now (released .exit)) (now (position .exit)) (now (metric .exit))
+        ≡ releaseAfter release (lentRelease (now (released .entry)) (now (position .entry)) (now (metric .entry))) ⌝ }
 {
     match release {
         Release::NoRelease => *released = 0,

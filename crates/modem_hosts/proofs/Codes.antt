@@ -56,7 +56,8 @@ module _ (r : Reply) (ds : List Detection) where
       rw z
 
   -- an accepted one its release
-  pub handed-released : (x : Release) (before : LentRelease) → r .code ≡ 0 → r .release ≡ releaseAfter x before → handed r ds ≡ released x ds
+  pub handed-released : (x : Release) (before : LentRelease) → r .code ≡ 0 → r .release ≡ releaseAfter x before
+      → handed r ds ≡ released x ds
   unfolding released
   handed-released NoRelease before e k = rw (e, k)
   handed-released (Released p m) before e k = rw (e, k)

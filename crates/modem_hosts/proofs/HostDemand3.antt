@@ -1,4 +1,5 @@
--- Demand 3 over the calls for C: their numbers say the states of a session, so it is modem's demand 3. Assumes nothing.
+-- Demand 3 over the calls for C: their numbers say the states of a session, so it is modem's demand 3. Assumes
+-- nothing.
 use mathlib.Core.Path.{ap, _∙_}
 use mathlib.Core.List.{map}
 use Rattle.reading.specs.Read.{Asked}
@@ -52,10 +53,12 @@ pub host-demand-3 : HostDemand3
 unfolding HostDemand3 Demand3
 host-demand-3 h d D a t result scratch out w m v =
     let u = fed h in
-    let r = read-said a (stateSaid (h .state)) (h .memory) (w .scratch-lent) (w .out-lent) (w .t-lent) (w .result-lent) scratch out t result (w .call) in
+    let r = read-said a (stateSaid (h .state)) (h .memory) (w .scratch-lent) (w .out-lent) (w .t-lent)
+    (w .result-lent) scratch out t result (w .call) in
     let k =
     demand-3 (session h) d (rw (u .released) at D) a (r .read) scratch out
-    (record { position = w .position; scratch-lent = w .scratch-lent; out-lent = w .out-lent; call = r .call }) m (sent-for a m v) in
+    (record { position = w .position; scratch-lent = w .scratch-lent; out-lent = w .out-lent; call = r .call }) m
+    (sent-for a m v) in
     record {
       layout = k .layout;
       chosen-is = k .chosen-is;

@@ -18,7 +18,7 @@ use Rattle.psk.specs.declared.Sent.the-variants as sent
 use Rattle.psk.specs.Symbols.{Sending}
 use Rattle.psk.specs.Send.{Modulated}
 use Rattle.decode.specs.Steps.{gainOf}
-use Rattle.rx.specs.declared.State.{State}
+use Rattle.state.specs.declared.State.{State}
 use Rattle.reading.specs.declared.Reading.{Reading}
 use Rattle.reading.specs.declared.ReadAnswer.the-variants as rd
 use Rattle.reading.specs.Read.{Asked, symbolsRead, readFault, readBegun, gainFault, readAccepted, readOutcome, ReadBy}
@@ -36,7 +36,8 @@ module _ (hz rec : ℕ) (m : Sending) (rows rows′ : List Float) where
       go (sent.Refused r) w e = absurd (omega (arith, number-positive r))
 
 -- ---- a reading
-then-positive : {A B : Type 0} (o : Outcome A) (f : A → Outcome B) → Positive o → ((a : A) → Positive (f a)) → Positive (andThen o f)
+then-positive : {A B : Type 0} (o : Outcome A) (f : A → Outcome B) → Positive o → ((a : A) → Positive (f a))
+    → Positive (andThen o f)
 then-positive (refused k) f h p = h
 then-positive (answered a) f h p = p a
 
@@ -44,12 +45,14 @@ module _ (a : Asked) (s : State) (memory : List Float) (scratch out : ℕ) where
   begun-positive : Positive (readBegun a s (length memory) scratch out)
   unfolding readBegun
   begun-positive =
-      then-positive (chosen (a .bandwidth) (a .rec)) _ (chosen-positive (a .bandwidth) (a .rec)) (λ l. judged-positive (readFault l a s (length memory) scratch out) l)
+      then-positive (chosen (a .bandwidth) (a .rec)) _ (chosen-positive (a .bandwidth) (a .rec))
+      (λ l. judged-positive (readFault l a s (length memory) scratch out) l)
 
   accepted-positive : Positive (readAccepted a s memory scratch out)
   unfolding readAccepted
   accepted-positive =
-      then-positive (readBegun a s (length memory) scratch out) _ begun-positive (λ l. judged-positive (gainFault (gainOf l (a .markers) (symbolsRead l a s memory))) l)
+      then-positive (readBegun a s (length memory) scratch out) _ begun-positive
+      (λ l. judged-positive (gainFault (gainOf l (a .markers) (symbolsRead l a s memory))) l)
 
   read-positive : Positive (readOutcome a s memory scratch out)
   unfolding readOutcome
@@ -64,18 +67,21 @@ short-positive hz rec markers phasors = go (chosen hz rec) (chosen-positive hz r
     judge Clear l = omega arith
     judge (Met r) l = number-positive r
 
-    go : (o : Outcome Layout) → Positive o → 0 < codeOf (andThen o (λ l. judged (tableFault l markers phasors) (buffersWrong l)))
+    go : (o : Outcome Layout) → Positive o → 0 < codeOf
+        (andThen o (λ l. judged (tableFault l markers phasors) (buffersWrong l)))
     go (refused k) h = h
     go (answered l) h = judge (tableFault l markers phasors) l
 
 -- the reading that t and a result say
-pub record ReadSaid (a : Asked) (s : State) (memory scratch out : List Float) (scratch′ out′ : List Float) (t′ : ℕ) (result′ : List Float) : Type 0 where
+pub record ReadSaid (a : Asked) (s : State) (memory scratch out : List Float) (scratch′ out′ : List Float) (t′ : ℕ)
+    (result′ : List Float) : Type 0 where
   pub read : Reading
   pub call : ReadBy a s memory scratch out (rd.Read read) scratch′ out′
   pub t-is : t′ ≡ read .located .t .0
   pub result-is : result′ ≡ readingNumbers read
 
-module _ (a : Asked) (s : State) (memory scratch out : List Float) (t : ℕ) (result scratch′ out′ : List Float) (t′ : ℕ) (result′ : List Float)
+module _ (a : Asked) (s : State) (memory scratch out : List Float) (t : ℕ) (result scratch′ out′ : List Float)
+    (t′ : ℕ) (result′ : List Float)
     (c : ReadCall a s memory scratch out t result 0 scratch′ out′ t′ result′) where
   pub read-said : ReadSaid a s memory scratch out scratch′ out′ t′ result′
   read-said = go (eqb (length result) 6) refl
@@ -86,7 +92,8 @@ module _ (a : Asked) (s : State) (memory scratch out : List Float) (t : ℕ) (re
           absurd (omega (arith, short-positive (a .bandwidth) (a .rec) (a .markers) (a .phasors)))
       go true e =
           let z : 0 ≡ codeOf (readOutcome a s memory (length scratch) (length out)) = rw e at (c .code-is) in
-          let v = answers-zero (readOutcome a s memory (length scratch) (length out)) (read-positive a s memory (length scratch) (length out)) (sym z) in
+          let v = answers-zero (readOutcome a s memory (length scratch) (length out))
+          (read-positive a s memory (length scratch) (length out)) (sym z) in
           record {
             read = v .value;
             call = record { answer = sym (v .is); scratch-is = rw e at (c .scratch-is); out-is = rw e at (c .out-is) };

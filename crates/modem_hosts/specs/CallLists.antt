@@ -18,12 +18,12 @@ use Rattle.hold.specs.Offer.{freshHold}
 use Rattle.hold.specs.History.{Offer, Detection, History}
 use Rattle.hold.specs.Releases.{holdAfter}
 use Rattle.hold.specs.LoneCalls.{LoneCalls, releasedBy, loneAnswers, loneVerdict, acceptedOffers}
-use Rattle.rx.specs.declared.State.{State}
+use Rattle.state.specs.declared.State.{State}
 use Rattle.rx.specs.declared.FeedAnswer.{FeedAnswer}
 use Rattle.rx.specs.Feed.{Given}
 use Rattle.modem.specs.Ideal.{accepted, verdicts, offersOf}
 use Rattle.modem.specs.Calls.{Calls, detections, answersOf}
-use Rattle.modem.specs.Follows.{Follows, withoutRoom}
+use Rattle.modem.specs.Follows.{Follows, wrongMemoryVerdict}
 use Rattle.modem_c.specs.Numbers.{position, stateOf, holdAt}
 use Rattle.modem_c.specs.Calls.{codeOf, LentRelease, LentState, lentState, candidateOf}
 use Rattle.modem_c.specs.Calls.{OpenCall, FeedCall, OfferCall}
@@ -38,8 +38,8 @@ pub record Reply : Type 0 where
 abbrev pub codes : List Reply → List ℕ
 codes rs = map (λ r. r .code) rs
 
--- "*released is 1 where a detection was released, whose position and metric are then written": read only where the
--- call answered 0
+-- dimpstea.h: "*released is 1 where a detection was released, whose position and metric are then written"; read only
+-- where the call answered 0
 abbrev pub handed : Reply → List Detection → List Detection
 handed r ds =
     cond (eqb (r .code) 0 && not (eqb (r .release .released) 0))
@@ -98,7 +98,7 @@ pub record NoneReceived (lent : LentState) (m : List Float) (gs : List Given) (l
     (rs : List Reply) : Type 0 where
   pub lent-is : lent′ ≡ lent
   pub memory-is : m′ ≡ m
-  pub codes-are : codes rs ≡ map codeOf (map withoutRoom gs)
+  pub codes-are : codes rs ≡ map codeOf (map wrongMemoryVerdict gs)
   pub released : handedOver rs ≡ []
 
 -- what lists of feeds come to that are lent what an opening of bandwidth hz and record rec at start left

@@ -14,7 +14,7 @@ use Rattle.search.specs.Chi.{Tables}
 use Rattle.symbols.specs.Symbols.{symbolsAt}
 use Rattle.symbols.specs.Standing.{samplesIn, filteredIn}
 use Rattle.locate.specs.declared.Located.{Located}
-use Rattle.rx.specs.declared.State.{State}
+use Rattle.state.specs.declared.State.{State}
 use Rattle.reading.specs.declared.ReadAnswer.{ReadAnswer}
 use Rattle.reading.specs.Reading.{located, symbolsFound}
 use Rattle.reading.specs.Read.{rowsIn}

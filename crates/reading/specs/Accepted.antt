@@ -20,8 +20,8 @@ use Rattle.laws.specs.Operations.{positive-by}
 use Rattle.level.specs.declared.Layout.{Layout}
 use Rattle.level.specs.Layout.{chosen}
 use Rattle.dat.specs.Tables.{tableFault}
-use Rattle.rx.specs.declared.State.{State}
-use Rattle.rx.specs.Conditions.{wrongState}
+use Rattle.state.specs.declared.State.{State}
+use Rattle.state.specs.Conditions.{wrongState}
 use Rattle.locate.specs.declared.Located.{Located}
 use Rattle.decode.specs.Steps.{gainOf, divided, scratchOf}
 use Rattle.decode.specs.SoftBits.{softBits}
@@ -47,7 +47,7 @@ pub record ReadDone (a : Asked) (s : State) (memory : List Float)
   pub scratch-is : scratch′ ≡ scratchOf layout (divided layout (a .markers) (symbolsRead layout a s memory))
   pub out-is : out′ ≡ softBits layout (a .markers) (symbolsRead layout a s memory)
 
--- "g .. finite and above 0"
+-- 24 isn't met: g is "finite and above 0"
 pub gain-right : (g : Float) → wrongGain g ≡ false → T (positive g)
 unfolding wrongGain ofBits
 gain-right g e = go (lt fzero g) (lt g (inf false)) refl refl e

@@ -27,8 +27,8 @@ use Rattle.search.specs.Fits.{Within}
 use Rattle.symbols.specs.Symbols.{driftLength}
 use Rattle.symbols.specs.Standing.{SymbolsFit}
 use Rattle.locate.specs.Fits.{LocateFits}
-use Rattle.rx.specs.declared.State.{State}
-use Rattle.rx.specs.Conditions.{spanEnd, one, wrongState}
+use Rattle.state.specs.declared.State.{State}
+use Rattle.state.specs.Conditions.{spanEnd, one, wrongState}
 use Rattle.rx.specs.Sound.{Sound, sound}
 use Rattle.reading.specs.Conditions.{wrongBuffers, framePast, samplesPast, notInHand, wrongDrift}
 use Rattle.reading.specs.Read.{Asked, tablesOf, placeFault, locateFault, frameFault, readFault}

@@ -16,7 +16,7 @@ use Rattle.level.specs.Layout.{outcome, chosen}
 use Rattle.dat.specs.Tables.{tableFault}
 use Rattle.locate.specs.declared.Located.{Located}
 use Rattle.decode.specs.Steps.{gainOf}
-use Rattle.rx.specs.declared.State.{State}
+use Rattle.state.specs.declared.State.{State}
 use Rattle.reading.specs.declared.LocateAnswer.the-variants as loc
 use Rattle.reading.specs.declared.ReadAnswer.{ReadAnswer}
 use Rattle.reading.specs.declared.ReadAnswer.the-variants as rd

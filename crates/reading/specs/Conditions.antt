@@ -11,8 +11,8 @@ use Rattle.laws.specs.Tests.{inRange}
 use Rattle.level.specs.declared.Layout.{Layout}
 use Rattle.search.specs.Search.{reach}
 use Rattle.symbols.specs.Symbols.{driftLength}
-use Rattle.rx.specs.declared.State.{State}
-use Rattle.rx.specs.Conditions.{spanEnd, one}
+use Rattle.state.specs.declared.State.{State}
+use Rattle.state.specs.Conditions.{spanEnd, one}
 
 -- 11: "an out or scratch buffer of wrong length": nc × nsym complex numbers, and n soft bits
 unfoldable pub wrongBuffers : Layout → ℕ → ℕ → Bool

@@ -10,7 +10,7 @@ use Rattle.search.specs.Chi.{Tables}
 use Rattle.locate.specs.declared.Located.{Located}
 use Rattle.decode.specs.Steps.{gainOf, scratchOf}
 use Rattle.decode.specs.SoftBits.{softBits}
-use Rattle.rx.specs.declared.State.{State}
+use Rattle.state.specs.declared.State.{State}
 use Rattle.reading.specs.declared.ReadAnswer.{ReadAnswer}
 use Rattle.reading.specs.Reading.{located, symbolsFound, readingOf}
 use Rattle.reading.specs.Read.{rowsIn, gainFault, readAnswered, stepsLeft}

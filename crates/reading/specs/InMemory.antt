@@ -14,7 +14,7 @@ use Rattle.symbols.specs.Symbols.{symbolsAt}
 use Rattle.symbols.specs.Standing.{samplesIn, filteredIn}
 use Rattle.locate.specs.declared.Located.{Located}
 use Rattle.locate.specs.Locate.{bestAround}
-use Rattle.rx.specs.declared.State.{State}
+use Rattle.state.specs.declared.State.{State}
 use Rattle.rx.specs.Receiver.{Carrier}
 use Rattle.rx.specs.View.{view}
 use Rattle.rx.specs.Numbers.{carrier-in}

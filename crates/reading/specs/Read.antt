@@ -18,9 +18,9 @@ use Rattle.search.specs.Chi.{Tables}
 use Rattle.locate.specs.declared.Located.{Located}
 use Rattle.decode.specs.Steps.{undivided, divided, gainOf, scratchOf}
 use Rattle.decode.specs.SoftBits.{softBits}
-use Rattle.rx.specs.declared.State.{State}
+use Rattle.state.specs.declared.State.{State}
 use Rattle.rx.specs.View.{view}
-use Rattle.rx.specs.Conditions.{wrongState}
+use Rattle.state.specs.Conditions.{wrongState}
 use Rattle.reading.specs.declared.Reading.{Reading}
 use Rattle.reading.specs.declared.LocateAnswer.{LocateAnswer}
 use Rattle.reading.specs.declared.LocateAnswer.the-variants as loc

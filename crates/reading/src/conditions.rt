@@ -6,13 +6,13 @@ ghost use lib.Ieee.{nan, neg};
 ghost use Rattle.refusal.specs.Any.{any};
 ghost use Rattle.laws.specs.Tests.{inRange};
 ghost use Rattle.level.specs.Sized.{Sized};
-ghost use Rattle.rx.specs.Near.{Near};
-ghost use Rattle.rx.specs.Conditions.{one};
+ghost use Rattle.state.specs.Near.{Near};
+ghost use Rattle.state.specs.Conditions.{one};
 ghost use Rattle.reading.specs.Conditions.{wrongBuffers, framePast, samplesPast};
 ghost use Rattle.reading.specs.Conditions.{notInHand, wrongDrift, wrongGain};
 use level::Layout;
-use rx::State;
-use rx::places;
+use state::State;
+use state::places;
 
 // Condition 11, of a scratch and an out buffer of so many f64.
 pub fn wrong_buffers(l: Layout, scratch: usize, out: usize) -> bool

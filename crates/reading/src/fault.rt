@@ -9,14 +9,14 @@ use level::Layout;
 use refusal::Fault;
 use refusal::Position;
 use refusal::Refusal;
-use rx::State;
+use state::State;
 
 // Rows 17 and 22 of locating.
 fn place_fault(l: Layout, s: State, room: usize, t0: Position) -> Fault
     requires { ⌜ IsLayout l ⌝ }
     ensures { λ r. ⌜ r ≡ placeFault l s room (t0 .0) ⌝ }
 {
-    if rx::conditions::wrong_state(l, room, s) {
+    if state::conditions::wrong_state(l, room, s) {
         return Fault::Met(Refusal::State);
     }
     if conditions::frame_past(l, s, t0.0) {
@@ -61,7 +61,7 @@ fn frame_fault(
     if conditions::wrong_buffers(l, scratch, out) {
         return Fault::Met(Refusal::Buffer);
     }
-    if rx::conditions::wrong_state(l, room, s) {
+    if state::conditions::wrong_state(l, room, s) {
         return Fault::Met(Refusal::State);
     }
     if conditions::not_in_hand(l, s, t0.0, drift) {

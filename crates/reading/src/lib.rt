@@ -22,7 +22,7 @@ use locate::Located;
 use refusal::Fault;
 use refusal::Position;
 use refusal::Refusal;
-use rx::State;
+use state::State;
 
 // "A reading's result is t, its chi, the pilot sum, g, the noise variance and the median".
 pub struct Reading {

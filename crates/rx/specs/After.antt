@@ -1,4 +1,5 @@
--- An accepted feed of a sound state leaves a sound state: no caller that keeps to the calls meets condition 17. Assumes nothing.
+-- An accepted feed of a sound state leaves a sound state: no caller that keeps to the calls meets condition 17.
+-- Assumes nothing.
 use Prim.Native.Nat.{ℕ, zero, suc, _+_, _-_, _*_, _/_, _%_, _^_, _≤_, _<_, max}
 use mathlib.Core.Path.{_≡_, refl, sym, ap, _∙_}
 use mathlib.Core.Bool.{Bool, true, false, _&&_, cond}
@@ -29,14 +30,15 @@ use Rattle.hold.specs.History.{Offer}
 use Rattle.hold.specs.Releases.{offeredIn, holdAfter}
 use Rattle.hold.specs.ReleasesLaws.{holdAfter-append}
 use Rattle.search.specs.Search.{reach, offerOf, offersFrom}
-use Rattle.rx.specs.declared.SearchPlace.{SearchPlace}
-use Rattle.rx.specs.declared.SearchPlace.the-variants.{Fresh, At}
-use Rattle.rx.specs.declared.State.{State}
-use Rattle.rx.specs.Receiver.{Carrier, Receiver, carrierOf, searchFrom, placeAfter, Feed, samplesAfter, carriersAfter, fed}
+use Rattle.state.specs.declared.SearchPlace.{SearchPlace}
+use Rattle.state.specs.declared.SearchPlace.the-variants.{Fresh, At}
+use Rattle.state.specs.declared.State.{State}
+use Rattle.state.specs.Places.{searchFrom, placeAfter}
+use Rattle.rx.specs.Receiver.{Carrier, Receiver, carrierOf, Feed, samplesAfter, carriersAfter, fed}
 use Rattle.rx.specs.View.{carrierIn, view}
 use Rattle.rx.specs.Open.{openedState}
-use Rattle.rx.specs.Conditions.{spanEnd}
-use Rattle.rx.specs.Near.{NearPlace, NearHeld, NearBlock}
+use Rattle.state.specs.Conditions.{spanEnd}
+use Rattle.state.specs.Near.{NearPlace, NearHeld, NearBlock}
 use Rattle.rx.specs.Sound.{Waits, Sound}
 use Rattle.rx.specs.Numbers as numbers
 use Rattle.rx.specs.Numbers.{endWith, baseWith, placeIn, countWith, chiAfter}
@@ -64,7 +66,8 @@ record Running (dead q : ℕ) (h : Hold) : Type 0 where
   since : Since q (h .best)
   near : NearBlock (h .block)
 
-taken-since : (q : ℕ) (block : Block) (best : Held) (p : Position) (c : Candidate) → p .0 ≡ q → Since q best → Since q (taken block best p c)
+taken-since : (q : ℕ) (block : Block) (best : Held) (p : Position) (c : Candidate) → p .0 ≡ q → Since q best
+    → Since q (taken block best p c)
 unfolding taken
 taken-since q block best p NoCandidate e w = w
 taken-since q block best p (Metric m) e w = go (atLeast p block && greater m best)
@@ -73,42 +76,53 @@ taken-since q block best p (Metric m) e w = go (atLeast p block && greater m bes
     go true = (omega arith, omega arith)
     go false = w
 
-module _ (dead : ℕ) (h : Hold) (o : Offer) (r : Ready dead (o .position .0) h) (far : o .position .0 + dead ≤ 2 ^ 49) where
-  running-kept : Since (o .position .0) (h .best) → Running dead (o .position .0) (keeping h (o .position) (o .candidate) .next)
-  unfolding keeping
-  running-kept w =
-      record {
-        hold-is = r .hold-is;
-        dead-is = r .dead-is;
-        since = taken-since (o .position .0) (h .block) (h .best) (o .position) (o .candidate) refl w;
-        near = r .near;
-      }
+module _ (dead : ℕ) (h : Hold) (o : Offer) (r : Ready dead (o .position .0) h) (far : o .position .0 + dead ≤ 2 ^ 49)
+  where
+    running-kept : Since (o .position .0) (h .best) → Running dead (o .position .0)
+        (keeping h (o .position) (o .candidate) .next)
+    unfolding keeping
+    running-kept w =
+        record {
+          hold-is = r .hold-is;
+          dead-is = r .dead-is;
+          since = taken-since (o .position .0) (h .block) (h .best) (o .position) (o .candidate) refl w;
+          near = r .near;
+        }
 
-  running-released : (b : Position) (m : Float) → b .0 ≤ o .position .0 → Running dead (o .position .0) (releasing h b m .next)
-  unfolding releasing
-  running-released b m w =
-      let d = r .dead-is in
-      record { hold-is = r .hold-is; dead-is = r .dead-is; since = tt; near = omega arith }
+    running-released : (b : Position) (m : Float) → b .0 ≤ o .position .0
+        → Running dead (o .position .0) (releasing h b m .next)
+    unfolding releasing
+    running-released b m w =
+        let d = r .dead-is in
+        record { hold-is = r .hold-is; dead-is = r .dead-is; since = tt; near = omega arith }
 
-  running-held : (best : Held) → h .best ≡ best → Before (o .position .0) best → Running dead (o .position .0) (offeredAt best h (o .position) (o .candidate) .next)
-  unfolding offeredAt due
-  running-held held.Empty e w = running-kept (rw e tt)
-  running-held (held.At b m) e w = go (due (h .hold) b (o .position)) refl
-    where
-      go : (t : Bool) → due (h .hold) b (o .position) ≡ t → Running dead (o .position .0) (cond t (releasing h b m) (keeping h (o .position) (o .candidate)) .next)
-      go true f = running-released b m w
-      go false f =
-          let q : o .position .0 ≤ b .0 + h .hold = ltb-false (b .0 + h .hold) (o .position .0) f in
-          let d = r .hold-is in
-          let k : o .position .0 ≤ b .0 + 8 = omega arith in
-          running-kept (rw e (w, k))
+    running-held : (best : Held) → h .best ≡ best → Before (o .position .0) best
+        → Running dead (o .position .0) (offeredAt best h (o .position) (o .candidate) .next)
+    unfolding offeredAt due
+    running-held held.Empty e w = running-kept (rw e tt)
+    running-held (held.At b m) e w = go (due (h .hold) b (o .position)) refl
+      where
+        go : (t : Bool) → due (h .hold) b (o .position) ≡ t
+            → Running dead (o .position .0) (cond t (releasing h b m) (keeping h (o .position) (o .candidate)) .next)
+        go true f = running-released b m w
+        go false f =
+            let q : o .position .0 ≤ b .0 + h .hold = ltb-false (b .0 + h .hold) (o .position .0) f in
+            let d = r .hold-is in
+            let k : o .position .0 ≤ b .0 + 8 = omega arith in
+            running-kept (rw e (w, k))
 
-  running : Running dead (o .position .0) (offeredIn h o .next)
-  unfolding offered
-  running = running-held (h .best) refl (r .before)
+    running : Running dead (o .position .0) (offeredIn h o .next)
+    unfolding offered
+    running = running-held (h .best) refl (r .before)
 
 ready-on : (dead q : ℕ) (h : Hold) → Running dead q h → Ready dead (q + 2) h
-ready-on dead q h r = record { hold-is = r .hold-is; dead-is = r .dead-is; before = go (h .best) (r .since); near = r .near }
+ready-on dead q h r =
+    record {
+      hold-is = r .hold-is;
+      dead-is = r .dead-is;
+      before = go (h .best) (r .since);
+      near = r .near;
+    }
   where
     go : (best : Held) → Since q best → Before (q + 2) best
     go held.Empty w = tt
@@ -127,16 +141,18 @@ module _ (dead : ℕ) (h : Hold) (chi : ℕ → Float) (p : ℕ) (r : Ready dead
   run-ready zero far = let e : p + 2 * 0 ≡ p = omega arith in rw e r
   run-ready (suc n) far =
       let e : p + 2 * suc n ≡ p + 2 * n + 2 = omega arith in
-      rw e (ready-on dead (p + 2 * n) (holdAfter h (offersFrom chi p (suc n))) (run-one n (run-ready n (omega arith)) (omega arith)))
+      rw e (ready-on dead (p + 2 * n) (holdAfter h (offersFrom chi p (suc n)))
+      (run-one n (run-ready n (omega arith)) (omega arith)))
 
   -- after the last of n + 1 offers
   run-running : (n : ℕ) → p + 2 * n + dead ≤ 2 ^ 49 → Running dead (p + 2 * n) (holdAfter h (offersFrom chi p (suc n)))
   run-running n far = run-one n (run-ready n (omega arith)) far
 
 -- ---- the numbers of a state that shows the receiver after the feed
-pub record Then (l : Layout) (s : State) (f : Feed) (chi : ℕ → Float) (s′ : State) : Type 0 where
+pub record NumbersAfter (l : Layout) (s : State) (f : Feed) (chi : ℕ → Float) (s′ : State) : Type 0 where
   pub start : s′ .start .0 ≡ s .start .0
-  pub samples-base : s′ .samples .base .0 ≡ trimmedBase (l .keep) (s .samples .base .0) (spanEnd (s .samples) + length (f .samples))
+  pub samples-base : s′ .samples .base .0 ≡ trimmedBase (l .keep) (s .samples .base .0)
+      (spanEnd (s .samples) + length (f .samples))
   pub samples-end : spanEnd (s′ .samples) ≡ spanEnd (s .samples) + length (f .samples)
   pub filtered-base : s′ .filtered .base .0 ≡ baseWith l s (length (f .samples))
   pub filtered-end : spanEnd (s′ .filtered) ≡ endWith l s (length (f .samples))
@@ -152,7 +168,8 @@ track-base : (l : Layout) (memory : List Float) (k : ℕ) (a : Span) → trackIn
 unfolding trackIn
 track-base l memory k a = refl
 
-module _ (l : Layout) (z : Sized l) (s s′ : State) (memory memory′ : List Float) (w : Sound l s) (f : Feed) (few : length (f .samples) ≤ 4000)
+module _ (l : Layout) (z : Sized l) (s s′ : State) (memory memory′ : List Float) (w : Sound l s) (f : Feed)
+    (few : length (f .samples) ≤ 4000)
     (e : view l s′ memory′ ≡ fed l f (view l s memory) .receiver) where
   samples-shown : trackIn l memory′ 0 (s′ .samples) ≡ samplesAfter l f (view l s memory)
   unfolding view fed
@@ -195,14 +212,16 @@ module _ (l : Layout) (z : Sized l) (s s′ : State) (memory memory′ : List Fl
   unfolding view
   hold-shown = ap (λ (r : Receiver). r .hold) e
 
-  pub then : Then l s f (chiAfter l f (view l s memory)) s′
-  then =
+  pub numbers-after : NumbersAfter l s f (chiAfter l f (view l s memory)) s′
+  numbers-after =
       record {
         start = start-shown;
         samples-base = based 0 (s′ .samples) _ _ samples-shown (numbers.samples-base l z s memory w f);
         samples-end = ended 0 (s′ .samples) _ _ samples-shown (numbers.samples-end l z s memory w f);
-        filtered-base = based (filteredPart 0) (s′ .filtered) _ _ filtered-shown (numbers.filtered-base l z s memory w f 0 first);
-        filtered-end = ended (filteredPart 0) (s′ .filtered) _ _ filtered-shown (numbers.filtered-end l z s memory w f 0 first);
+        filtered-base = based (filteredPart 0) (s′ .filtered) _ _ filtered-shown
+            (numbers.filtered-base l z s memory w f 0 first);
+        filtered-end = ended (filteredPart 0) (s′ .filtered) _ _ filtered-shown
+            (numbers.filtered-end l z s memory w f 0 first);
         step-base = based (stepPart 0) (s′ .step) _ _ step-shown (numbers.step-base l z s memory w f 0 first);
         step-end = ended (stepPart 0) (s′ .step) _ _ step-shown (numbers.step-end l z s memory w f 0 first);
         power-base = based (powerPart 0) (s′ .power) _ _ power-shown (numbers.power-base l z s memory w f 0 first);
@@ -222,7 +241,8 @@ end-near : (a d fe se k : ℕ) → fe ≡ max a (se - d) → fe ≤ 2 ^ 49 → s
 end-near a d fe se k h₁ h₂ h₃ = omega arith
 
 -- no trim of the samples passes what the next filtered value needs
-pub samples-stay : (keep d start sb se k r : ℕ) → 4032 + 2 * d ≤ keep → k ≤ 4000 → sb + d ≤ max (start + d) (se - d) → r ≤ max sb (se + k - keep) → r + d ≤ max (start + d) (se - d)
+pub samples-stay : (keep d start sb se k r : ℕ) → 4032 + 2 * d ≤ keep → k ≤ 4000 → sb + d ≤ max (start + d) (se - d)
+    → r ≤ max sb (se + k - keep) → r + d ≤ max (start + d) (se - d)
 samples-stay keep d start sb se k r h₁ h₂ h₃ h₄ = omega arith
 
 place-up : (x y : ℕ) → x ≤ max x y + max x y % 2
@@ -243,7 +263,8 @@ before-place Fresh base (held.At b m) w = absurd w
 before-place (At q) base (held.At b m) w = let u = place-up (q .0) (base + 32) in omega (arith, w .0)
 
 -- nothing was searched: the base has not passed what waits by more than it may
-waits-on : (s : SearchPlace) (fb b : ℕ) (best : Held) → b ≤ max fb (searchFrom s fb - 107) → Waits s fb best → Waits s b best
+waits-on : (s : SearchPlace) (fb b : ℕ) (best : Held) → b ≤ max fb (searchFrom s fb - 107) → Waits s fb best
+    → Waits s b best
 waits-on s fb b held.Empty h w = tt
 waits-on Fresh fb b (held.At c m) h w = w
 waits-on (At q) fb b (held.At c m) h w =
@@ -252,7 +273,8 @@ waits-on (At q) fb b (held.At c m) h w =
     (w .0, w .1, omega arith)
 
 -- something was: it waits at the new place
-waits-since : (p n b : ℕ) (best : Held) → b + 32 ≤ p → Since (p + 2 * n) best → Waits (At (record { 0 = p + 2 * suc n })) b best
+waits-since : (p n b : ℕ) (best : Held) → b + 32 ≤ p → Since (p + 2 * n) best
+    → Waits (At (record { 0 = p + 2 * suc n })) b best
 waits-since p n b held.Empty h w = tt
 waits-since p n b (held.At c m) h w =
     let u = w .0 in
@@ -273,7 +295,8 @@ record Found (l : Layout) (fb fe : ℕ) (search : SearchPlace) (h : Hold) : Type
   searched : fe ≤ searchFrom search fb + reach l
   waits : Waits search fb (h .best)
 
-module _ (l : Layout) (z : Sized l) (s : State) (w : Sound l s) (f : Feed) (chi : ℕ → Float) (few : length (f .samples) ≤ 4000)
+module _ (l : Layout) (z : Sized l) (s : State) (w : Sound l s) (f : Feed) (chi : ℕ → Float)
+    (few : length (f .samples) ≤ 4000)
     (soon : spanEnd (s .samples) + length (f .samples) ≤ 2 ^ 48) where
   abbrev fe′ : ℕ
   fe′ = endWith l s (length (f .samples))
@@ -281,7 +304,8 @@ module _ (l : Layout) (z : Sized l) (s : State) (w : Sound l s) (f : Feed) (chi 
   abbrev fb′ : ℕ
   fb′ = baseWith l s (length (f .samples))
 
-  grows : (spanEnd (s .filtered) ≤ endWith l s (length (f .samples))) × (endWith l s (length (f .samples)) ≤ spanEnd (s .filtered) + length (f .samples))
+  grows : (spanEnd (s .filtered) ≤ endWith l s (length (f .samples)))
+      × (endWith l s (length (f .samples)) ≤ spanEnd (s .filtered) + length (f .samples))
   grows = rw (w .filtered-end) (
     numbers.end-grows (s .start .0 + l .delay) (l .delay) (spanEnd (s .samples)) (length (f .samples)),
     numbers.end-grows-by (s .start .0 + l .delay) (l .delay) (spanEnd (s .samples)) (length (f .samples)),
@@ -290,19 +314,29 @@ module _ (l : Layout) (z : Sized l) (s : State) (w : Sound l s) (f : Feed) (chi 
   filtered-trimmed : Trimmed (l .keep) (s .filtered .base .0) fe′ fb′
   filtered-trimmed = trimmed (l .keep) (s .filtered .base .0) fe′ (let u = grows .0 in omega arith)
 
-  samples-trimmed : Trimmed (l .keep) (s .samples .base .0) (spanEnd (s .samples) + length (f .samples)) (trimmedBase (l .keep) (s .samples .base .0) (spanEnd (s .samples) + length (f .samples)))
+  samples-trimmed : Trimmed (l .keep) (s .samples .base .0) (spanEnd (s .samples) + length (f .samples))
+      (trimmedBase (l .keep) (s .samples .base .0) (spanEnd (s .samples) + length (f .samples)))
   samples-trimmed = trimmed (l .keep) (s .samples .base .0) (spanEnd (s .samples) + length (f .samples)) (omega arith)
 
   near-then : fe′ ≤ 2 ^ 49
-  near-then = end-near (s .start .0 + l .delay) (l .delay) (spanEnd (s .filtered)) (spanEnd (s .samples)) (length (f .samples)) (w .filtered-end) (w .filtered-near) soon
+  near-then = end-near (s .start .0 + l .delay) (l .delay) (spanEnd (s .filtered)) (spanEnd (s .samples))
+      (length (f .samples)) (w .filtered-end) (w .filtered-near) soon
 
   place-then : searchFrom (s .search) fb′ ≡ placeIn s
-  place-then = let u = grows in numbers.search-kept l z (s .search) (s .filtered .base .0) (spanEnd (s .filtered)) fe′ (omega (arith, u .0)) (omega (arith, u .1)) (w .searched)
+  place-then = let u = grows in numbers.search-kept l z (s .search) (s .filtered .base .0) (spanEnd (s .filtered)) fe′
+      (omega (arith, u .0)) (omega (arith, u .1)) (w .searched)
 
   ready : Ready (l .dead) (placeIn s) (s .hold)
-  ready = record { hold-is = w .hold; dead-is = w .dead; before = before-place (s .search) (s .filtered .base .0) (s .hold .best) (w .waits); near = w .block-near }
+  ready = record {
+    hold-is = w .hold;
+    dead-is = w .dead;
+    before = before-place (s .search) (s .filtered .base .0)
+        (s .hold .best) (w .waits);
+    near = w .block-near;
+  }
 
-  found : (n : ℕ) → countWith l s (length (f .samples)) ≡ n → Found l fb′ fe′ (placeAfter (s .search) (placeIn s) n) (holdAfter (s .hold) (offersFrom chi (placeIn s) n))
+  found : (n : ℕ) → countWith l s (length (f .samples)) ≡ n
+      → Found l fb′ fe′ (placeAfter (s .search) (placeIn s) n) (holdAfter (s .hold) (offersFrom chi (placeIn s) n))
   unfolding offersFrom tabulate holdAfter
   found zero e =
       let u = grows .1 in
@@ -313,28 +347,37 @@ module _ (l : Layout) (z : Sized l) (s : State) (w : Sound l s) (f : Feed) (chi 
         held-near = w .held-near;
         block-near = w .block-near;
         searched = rw place-then (omega (arith, all-offered fe′ (reach l) (placeIn s) 0 e));
-        waits = waits-on (s .search) (s .filtered .base .0) fb′ (s .hold .best) (numbers.below-place (l .keep) (reach l) (s .filtered .base .0) (spanEnd (s .filtered)) fe′ fb′ (placeIn s) (numbers.keep-reach l z) (omega arith) (w .searched) (filtered-trimmed .most)) (w .waits);
+        waits = waits-on (s .search) (s .filtered .base .0) fb′ (s .hold .best)
+            (numbers.below-place (l .keep) (reach l) (s .filtered .base .0) (spanEnd (s .filtered)) fe′ fb′
+            (placeIn s) (numbers.keep-reach l z) (omega arith) (w .searched) (filtered-trimmed .most)) (w .waits);
       }
   found (suc n) e =
       let u : placeIn s + 2 * n + reach l < fe′ = last-offer fe′ (reach l) (placeIn s) n e in
       let v : l .dead + 112 ≤ reach l = numbers.dead-reach l z in
       let m : fe′ ≤ 2 ^ 49 = near-then in
-      let r : Running (l .dead) (placeIn s + 2 * n) (holdAfter (s .hold) (offersFrom chi (placeIn s) (suc n))) = run-running (l .dead) (s .hold) chi (placeIn s) ready n (omega arith) in
+      let r : Running (l .dead) (placeIn s + 2 * n) (holdAfter (s .hold) (offersFrom chi (placeIn s) (suc n))) =
+      run-running (l .dead) (s .hold) chi (placeIn s) ready n (omega arith) in
       record {
         hold-is = r .hold-is;
         dead-is = r .dead-is;
         place-near = omega arith;
-        held-near = held-since (placeIn s + 2 * n) (holdAfter (s .hold) (offersFrom chi (placeIn s) (suc n)) .best) (omega arith) (r .since);
+        held-near = held-since (placeIn s + 2 * n) (holdAfter (s .hold) (offersFrom chi (placeIn s) (suc n)) .best)
+            (omega arith) (r .since);
         block-near = r .near;
-        searched = le-trans (all-offered fe′ (reach l) (placeIn s) (suc n) e) (let y = place-up (placeIn s + 2 * suc n) (fb′ + 32) in omega arith);
-        waits = waits-since (placeIn s) n fb′ (holdAfter (s .hold) (offersFrom chi (placeIn s) (suc n)) .best) (base-below (s .search) fb′ (placeIn s) place-then) (r .since);
+        searched = le-trans (all-offered fe′ (reach l) (placeIn s) (suc n) e)
+            (let y = place-up (placeIn s + 2 * suc n) (fb′ + 32) in omega arith);
+        waits = waits-since (placeIn s) n fb′ (holdAfter (s .hold) (offersFrom chi (placeIn s) (suc n)) .best)
+            (base-below (s .search) fb′ (placeIn s) place-then) (r .since);
       }
 
-  sound-then : (s′ : State) → s′ .bandwidth ≡ s .bandwidth → s′ .rec ≡ s .rec → Then l s f chi s′ → Sound l s′
+  sound-then : (s′ : State) → s′ .bandwidth ≡ s .bandwidth → s′ .rec ≡ s .rec → NumbersAfter l s f chi s′ → Sound l s′
   sound-then s′ b r t =
-      let a : Trimmed (l .keep) (s .samples .base .0) (spanEnd (s .samples) + length (f .samples)) (s′ .samples .base .0) = rw (t .samples-base) samples-trimmed in
-      let c : Trimmed (l .keep) (s .filtered .base .0) fe′ (s′ .filtered .base .0) = rw (t .filtered-base) filtered-trimmed in
-      let g : Found l fb′ fe′ (s′ .search) (s′ .hold) = rw (t .place, t .hold) (found (countWith l s (length (f .samples))) refl) in
+      let a : Trimmed (l .keep) (s .samples .base .0) (spanEnd (s .samples) + length (f .samples))
+      (s′ .samples .base .0) = rw (t .samples-base) samples-trimmed in
+      let c : Trimmed (l .keep) (s .filtered .base .0) fe′ (s′ .filtered .base .0) = rw (t .filtered-base)
+      filtered-trimmed in
+      let g : Found l fb′ fe′ (s′ .search) (s′ .hold) = rw (t .place, t .hold)
+      (found (countWith l s (length (f .samples))) refl) in
       let e₁ = t .samples-end in
       let e₂ = t .filtered-end in
       let e₃ = t .step-end in
@@ -347,7 +390,8 @@ module _ (l : Layout) (z : Sized l) (s : State) (w : Sound l s) (f : Feed) (chi 
         rec = r ∙ w .rec;
         hold = g .hold-is;
         dead = g .dead-is;
-        samples-short = short-of (s′ .samples .base .0) (s′ .samples .len) (spanEnd (s .samples) + length (f .samples)) (2 * l .keep) e₁ (a .short);
+        samples-short = short-of (s′ .samples .base .0) (s′ .samples .len)
+            (spanEnd (s .samples) + length (f .samples)) (2 * l .keep) e₁ (a .short);
         filtered-short = short-of (s′ .filtered .base .0) (s′ .filtered .len) fe′ (2 * l .keep) e₂ (c .short);
         start-near = rw (t .start) (w .start-near);
         samples-near = rw e₁ (le-trans soon (omega arith));
@@ -356,14 +400,17 @@ module _ (l : Layout) (z : Sized l) (s : State) (w : Sound l s) (f : Feed) (chi 
         held-near = g .held-near;
         block-near = g .block-near;
         step-base = b₃ ∙ sym b₂;
-        step-len = same-len (s′ .step .base .0) (s′ .step .len) (s′ .filtered .base .0) (s′ .filtered .len) (b₃ ∙ sym b₂) (e₃ ∙ sym e₂);
+        step-len = same-len (s′ .step .base .0) (s′ .step .len) (s′ .filtered .base .0) (s′ .filtered .len)
+            (b₃ ∙ sym b₂) (e₃ ∙ sym e₂);
         power-base = b₄ ∙ sym b₂;
-        power-len = same-len (s′ .power .base .0) (s′ .power .len) (s′ .filtered .base .0) (s′ .filtered .len) (b₄ ∙ sym b₂) (e₄ ∙ sym e₂);
+        power-len = same-len (s′ .power .base .0) (s′ .power .len) (s′ .filtered .base .0) (s′ .filtered .len)
+            (b₄ ∙ sym b₂) (e₄ ∙ sym e₂);
         filtered-end = rw (e₂, t .start, e₁);
         samples-from =
             rw (e₂)
             (le-trans
-            (samples-stay (l .keep) (l .delay) (s .start .0) (s .samples .base .0) (spanEnd (s .samples)) (length (f .samples)) (s′ .samples .base .0) (numbers.keep-delay l z) few
+            (samples-stay (l .keep) (l .delay) (s .start .0) (s .samples .base .0) (spanEnd (s .samples))
+            (length (f .samples)) (s′ .samples .base .0) (numbers.keep-delay l z) few
             (rw (w .filtered-end) at (w .samples-from)) (a .most))
             (numbers.end-grows (s .start .0 + l .delay) (l .delay) (spanEnd (s .samples)) (length (f .samples))));
         searched = rw (e₂, b₂) (g .searched);
@@ -376,14 +423,15 @@ module _ (l : Layout) (z : Sized l) (s : State) (w : Sound l s) (f : Feed) (chi 
       same-len : (a n b m : ℕ) → a ≡ b → a + n ≡ b + m → n ≡ m
       same-len a n b m p q = omega arith
 
--- Every state that shows the receiver after an accepted feed of a sound state, and keeps its bandwidth and record, is sound.
+-- Every state that shows the receiver after an accepted feed of a sound state, and keeps its bandwidth and record,
+-- is sound.
 module _ (l : Layout) (i : IsLayout l) (s s′ : State) (memory memory′ : List Float) (f : Feed) where
   pub sound-after : Sound l s → length (f .samples) ≤ 4000 → spanEnd (s .samples) + length (f .samples) ≤ 2 ^ 48
       → s′ .bandwidth ≡ s .bandwidth → s′ .rec ≡ s .rec → view l s′ memory′ ≡ fed l f (view l s memory) .receiver
       → Sound l s′
   sound-after w few soon b r e =
       let z : Sized l = sized l i in
-      sound-then l z s w f (chiAfter l f (view l s memory)) few soon s′ b r (then l z s s′ memory memory′ w f few e)
+      sound-then l z s w f (chiAfter l f (view l s memory)) few soon s′ b r (numbers-after l z s s′ memory memory′ w f few e)
 
 -- ... and so is a fresh receiver's state.
 pub sound-opened : (l : Layout) → IsLayout l → (start : ℕ) → start ≤ 2 ^ 40 → Sound l (openedState l start)

@@ -1,12 +1,11 @@
 pub mod Receiver
 pub mod View
-pub mod Conditions
-pub mod Near
 pub mod Sound
 pub mod Feed
 pub mod Open
 pub mod Local
 pub mod Numbers
+pub mod AtMostOne
 pub mod Once
 pub mod After
 pub mod Accept

@@ -1,21 +1,18 @@
 -- What the call `open` comes to (01, "Tracks and filter"). Definitions only.
 use Prim.Native.Nat.{ℕ, _+_}
-use mathlib.Core.List.{List, [], _∷_}
+use mathlib.Core.List.{List}
 use lib.Ieee.{Float}
-use Rattle.refusal.specs.declared.Refusal.the-variants as no
-use Rattle.refusal.specs.declared.Fault.{Fault}
 use Rattle.refusal.specs.Refusal.{numberOf}
-use Rattle.refusal.specs.Outcome.{Outcome, refused, answered, andThen, firstFault, orElse, judged}
+use Rattle.refusal.specs.Outcome.{Outcome, refused, answered, andThen, judged}
 use Rattle.level.specs.declared.Layout.{Layout}
 use Rattle.level.specs.Layout.{chosen}
-use Rattle.dat.specs.Tables.{tableFault}
 use Rattle.track.specs.declared.Span.{Span}
 use Rattle.hold.specs.Offer.{freshHold}
-use Rattle.rx.specs.declared.SearchPlace.the-variants.{Fresh}
-use Rattle.rx.specs.declared.State.{State}
+use Rattle.state.specs.declared.SearchPlace.the-variants.{Fresh}
+use Rattle.state.specs.declared.State.{State}
 use Rattle.rx.specs.declared.OpenAnswer.{OpenAnswer}
 use Rattle.rx.specs.declared.OpenAnswer.the-variants.{Opened, Refused}
-use Rattle.rx.specs.Conditions.{wrongStart, wrongBook}
+use Rattle.state.specs.Faults.{openFault}
 
 -- no values, from position p on
 abbrev pub emptySpan : ℕ → Span
@@ -35,14 +32,6 @@ openedState l start =
       search = Fresh;
       hold = freshHold 8 (l .dead);
     }
-
--- rows 15 and 16
-unfoldable pub startFault : ℕ → List Float → Fault
-startFault start book = firstFault ((no.Start, wrongStart start) ∷ (no.TurnBook, wrongBook book) ∷ [])
-
--- rows 3 to 7, then 15 and 16
-unfoldable pub openFault : Layout → List ℕ → List Float → ℕ → List Float → Fault
-openFault l markers phasors start book = orElse (tableFault l markers phasors) (startFault start book)
 
 -- what an opening answers
 unfoldable pub openOutcome : ℕ → ℕ → List ℕ → List Float → ℕ → List Float → Outcome State

@@ -1,5 +1,5 @@
--- A receiver as tracks, its opening and an accepted feed (01, "Tracks and filter", "Search and hold"; rx/psk.rs). Definitions only.
-use Prim.Native.Nat.{ℕ, zero, suc, _+_, _-_, _*_, max}
+-- A receiver as tracks, its opening and an accepted feed (01, "Tracks and filter"; rx/psk.rs). Definitions only.
+use Prim.Native.Nat.{ℕ, _+_, _-_}
 use mathlib.Core.List.{List, []}
 use lib.ListN.{length, getD}
 use lib.Ieee.{Float}
@@ -14,9 +14,10 @@ use Rattle.hold.specs.Offer.{freshHold}
 use Rattle.hold.specs.History.{Offer, Detection}
 use Rattle.hold.specs.Releases.{holdAfter, releases}
 use Rattle.search.specs.Chi.{Tables, chiAt}
-use Rattle.search.specs.Search.{evenUp, searchCount, offersFrom}
-use Rattle.rx.specs.declared.SearchPlace.{SearchPlace}
-use Rattle.rx.specs.declared.SearchPlace.the-variants.{Fresh, At}
+use Rattle.search.specs.Search.{searchCount, offersFrom}
+use Rattle.state.specs.declared.SearchPlace.{SearchPlace}
+use Rattle.state.specs.declared.SearchPlace.the-variants.{Fresh}
+use Rattle.state.specs.Places.{searchFrom, placeAfter}
 
 -- the tracks of a carrier
 pub record Carrier : Type 0 where
@@ -38,7 +39,8 @@ emptyAt p = record { base = p; values = [] }
 abbrev pub emptyCarrier : ℕ → Carrier
 emptyCarrier p = record { filtered = emptyAt p; step = emptyAt p; power = emptyAt p }
 
--- "A receiver opens as `new` and then `start_at(start)`, with an empty sample track whose base and end are start." "Hold is 8, dead 32 × nsym − 128."
+-- "A receiver opens as `new` and then `start_at(start)`, with an empty sample track whose base and end are start."
+-- "Hold is 8, dead 32 × nsym − 128."
 unfoldable pub opened : Layout → ℕ → Receiver
 opened l start =
     record {
@@ -70,19 +72,6 @@ carrierAfter l book s e n c k =
       power = append (l .keep) (k .power) (window (λ m. powerOf l (d m)) e n);
     }
 
--- where the search may begin: `lo` of `step`, of a filtered track from base on
-abbrev pub placeOr : SearchPlace → ℕ → ℕ
-placeOr Fresh p = p
-placeOr (At q) p = q .0
-
-abbrev pub searchFrom : SearchPlace → ℕ → ℕ
-searchFrom s base = evenUp (max (placeOr s (base + 32)) (base + 32))
-
--- where it goes on after n positions from p
-abbrev pub placeAfter : SearchPlace → ℕ → ℕ → SearchPlace
-placeAfter s p zero = s
-placeAfter s p (suc n) = At (record { 0 = p + 2 * suc n })
-
 -- the offers of a search over carriers, filtered up to e
 unfoldable pub offersOf : Layout → Tables → List Carrier → SearchPlace → ℕ → List Offer
 offersOf l t cs s e =
@@ -112,7 +101,11 @@ endAfter l f r = filteredEnd l (r .start) (endOf (r .samples) + length (f .sampl
 
 unfoldable pub carriersAfter : Layout → Feed → Receiver → List Carrier
 carriersAfter l f r =
-    tabulate (λ c. carrierAfter l (f .book) (samplesAfter l f r) (endBefore l r) (endAfter l f r - endBefore l r) c (carrierOf (r .carriers) c)) (l .nc)
+    tabulate
+    (λ c.
+    carrierAfter l (f .book) (samplesAfter l f r) (endBefore l r) (endAfter l f r - endBefore l r) c
+    (carrierOf (r .carriers) c))
+    (l .nc)
 
 -- an accepted feed: the samples appended, every carrier filtered, every new position searched
 unfoldable pub fed : Layout → Feed → Receiver → Fed

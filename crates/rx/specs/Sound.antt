@@ -1,4 +1,5 @@
--- What condition 17 says of a state's numbers, free of tests: a state that it does not refuse is `Sound`, and no sound one is refused. Assumes nothing.
+-- What condition 17 says of a state's numbers, free of tests: a state that it does not refuse is `Sound`, and no
+-- sound one is refused. Assumes nothing.
 use Prim.Native.Nat.{ℕ, _+_, _-_, _*_, _/_, _^_, _≤_}
 use mathlib.Core.Path.{_≡_, refl, sym}
 use mathlib.Core.Bool.{Bool, false, not, _||_}
@@ -15,12 +16,14 @@ use Rattle.hold.specs.declared.Held.the-variants as held
 use Rattle.hold.specs.declared.Block.{Block}
 use Rattle.hold.specs.declared.Block.the-variants.{First, From}
 use Rattle.search.specs.Search.{reach, searchCount}
-use Rattle.rx.specs.declared.SearchPlace.{SearchPlace}
-use Rattle.rx.specs.declared.SearchPlace.the-variants.{Fresh, At}
-use Rattle.rx.specs.declared.State.{State}
-use Rattle.rx.specs.Receiver.{searchFrom}
-use Rattle.rx.specs.Near.{NearPlace, NearHeld, NearBlock}
-use Rattle.rx.specs.Conditions.{spanEnd, outside, otherLayout, wrongHold, longTracks, unequal, unequalTracks, wrongEnd, lateSamples, unsearched, strayFrom, strayHeld, wrongHeld, placeOutside, heldOutside, blockOutside, farPositions, wrongState}
+use Rattle.state.specs.declared.SearchPlace.{SearchPlace}
+use Rattle.state.specs.declared.SearchPlace.the-variants.{Fresh, At}
+use Rattle.state.specs.declared.State.{State}
+use Rattle.state.specs.Places.{searchFrom}
+use Rattle.state.specs.Near.{NearPlace, NearHeld, NearBlock}
+use Rattle.state.specs.Conditions.{spanEnd, outside, otherLayout, wrongHold, longTracks, unequal, unequalTracks}
+use Rattle.state.specs.Conditions.{wrongEnd, lateSamples, unsearched, strayFrom, strayHeld, wrongHeld, placeOutside}
+use Rattle.state.specs.Conditions.{heldOutside, blockOutside, farPositions, wrongState}
 
 -- a held candidate is 2 to 10 before the search place, and at most 1,000 below the filtered base
 abbrev pub Waits : SearchPlace → ℕ → Held → Type 0
@@ -123,7 +126,13 @@ spans-of a b e =
     (sym p, omega arith)
 
 spans-back : (a b : Span) → b .base .0 ≡ a .base .0 → b .len ≡ a .len → unequal a b ≡ false
-spans-back a b p q = rw (p, q, eq-eqb (a .base .0) (a .base .0) refl, eq-eqb (a .base .0 + a .len) (a .base .0 + a .len) refl)
+spans-back a b p q = rw (
+  p,
+  q,
+  eq-eqb (a .base .0) (a .base .0) refl,
+  eq-eqb (a .base .0 + a .len)
+      (a .base .0 + a .len) refl,
+)
 
 count-none : (e r p : ℕ) → (e - r - p + 1) / 2 ≡ 0 → e ≤ p + r
 count-none e r p h = omega arith
@@ -133,18 +142,26 @@ count-back e r p h = omega arith
 
 module _ (l : Layout) (room : ℕ) (s : State) where
   pub sound : wrongState l room s ≡ false → Sound l s × (room ≡ 2 * memoryLength l)
-  unfolding wrongState otherLayout wrongHold longTracks unequalTracks wrongEnd lateSamples unsearched wrongHeld farPositions
+  unfolding wrongState otherLayout wrongHold longTracks unequalTracks wrongEnd lateSamples unsearched wrongHeld
+      farPositions
   sound e =
       let a : Bool = not (eqb room (2 * memoryLength l)) in
-      let u₅ = neither (a || otherLayout l s || wrongHold l s || longTracks l s || farPositions s || unequalTracks s || wrongEnd l s || lateSamples l s || unsearched l s) (wrongHeld s) e in
-      let u₄ = neither (a || otherLayout l s || wrongHold l s || longTracks l s || farPositions s || unequalTracks s || wrongEnd l s || lateSamples l s) (unsearched l s) (u₅ .0) in
-      let u₃ = neither (a || otherLayout l s || wrongHold l s || longTracks l s || farPositions s || unequalTracks s || wrongEnd l s) (lateSamples l s) (u₄ .0) in
-      let u₂ = neither (a || otherLayout l s || wrongHold l s || longTracks l s || farPositions s || unequalTracks s) (wrongEnd l s) (u₃ .0) in
-      let u₁ = none-of-6 a (otherLayout l s) (wrongHold l s) (longTracks l s) (farPositions s) (unequalTracks s) (u₂ .0) in
+      let u₅ = neither (a || otherLayout l s || wrongHold l s || longTracks l s || farPositions s || unequalTracks s
+      || wrongEnd l s || lateSamples l s || unsearched l s) (wrongHeld s) e in
+      let u₄ = neither (a || otherLayout l s || wrongHold l s || longTracks l s || farPositions s || unequalTracks s
+      || wrongEnd l s || lateSamples l s) (unsearched l s) (u₅ .0) in
+      let u₃ = neither (a || otherLayout l s || wrongHold l s || longTracks l s || farPositions s || unequalTracks s
+      || wrongEnd l s) (lateSamples l s) (u₄ .0) in
+      let u₂ = neither (a || otherLayout l s || wrongHold l s || longTracks l s || farPositions s || unequalTracks s)
+      (wrongEnd l s) (u₃ .0) in
+      let u₁ = none-of-6 a (otherLayout l s) (wrongHold l s) (longTracks l s) (farPositions s) (unequalTracks s)
+      (u₂ .0) in
       let v₁ = neither (not (eqb (s .bandwidth) (l .bandwidth))) (not (eqb (s .rec) (l .rec))) (u₁ .1) in
       let v₂ = neither (not (eqb (s .hold .hold) 8)) (not (eqb (s .hold .dead) (l .dead))) (u₁ .2) in
-      let v₃ = none-of-4 (ltb (2 * l .keep) (s .samples .len)) (ltb (2 * l .keep) (s .filtered .len)) (ltb (2 * l .keep) (s .step .len)) (ltb (2 * l .keep) (s .power .len)) (u₁ .3) in
-      let v₄ = none-of-6 (outside (s .start .0)) (outside (spanEnd (s .samples))) (outside (spanEnd (s .filtered))) (placeOutside (s .search)) (heldOutside (s .hold .best)) (blockOutside (s .hold .block)) (u₁ .4) in
+      let v₃ = none-of-4 (ltb (2 * l .keep) (s .samples .len)) (ltb (2 * l .keep) (s .filtered .len))
+      (ltb (2 * l .keep) (s .step .len)) (ltb (2 * l .keep) (s .power .len)) (u₁ .3) in
+      let v₄ = none-of-6 (outside (s .start .0)) (outside (spanEnd (s .samples))) (outside (spanEnd (s .filtered)))
+      (placeOutside (s .search)) (heldOutside (s .hold .best)) (blockOutside (s .hold .block)) (u₁ .4) in
       let v₅ = neither (unequal (s .filtered) (s .step)) (unequal (s .filtered) (s .power)) (u₁ .5) in
       let d = spans-of (s .filtered) (s .step) (v₅ .0) in
       let p = spans-of (s .filtered) (s .power) (v₅ .1) in (
@@ -167,14 +184,16 @@ module _ (l : Layout) (room : ℕ) (s : State) where
           power-len = p .1;
           filtered-end = equal-of _ _ (u₂ .1);
           samples-from = ltb-false _ _ (u₃ .1);
-          searched = count-none (spanEnd (s .filtered)) (reach l) (searchFrom (s .search) (s .filtered .base .0)) (equal-of _ 0 (u₄ .1));
+          searched = count-none (spanEnd (s .filtered)) (reach l) (searchFrom (s .search) (s .filtered .base .0))
+              (equal-of _ 0 (u₄ .1));
           waits = waits-of (s .search) (s .filtered .base .0) (s .hold .best) (u₅ .1);
         },
         equal-of _ _ (u₁ .0),
       )
 
   pub not-wrong : Sound l s → room ≡ 2 * memoryLength l → wrongState l room s ≡ false
-  unfolding wrongState otherLayout wrongHold longTracks unequalTracks wrongEnd lateSamples unsearched wrongHeld farPositions
+  unfolding wrongState otherLayout wrongHold longTracks unequalTracks wrongEnd lateSamples unsearched wrongHeld
+      farPositions
   not-wrong w r =
       clear
       (clear
@@ -189,19 +208,22 @@ module _ (l : Layout) (room : ℕ) (s : State) where
       (clear (not-unequal (s .hold .hold) 8 (w .hold)) (not-unequal (s .hold .dead) (l .dead) (w .dead))))
       (clear
       (clear
-      (clear (le-ltb (2 * l .keep) (s .samples .len) (w .samples-short)) (le-ltb (2 * l .keep) (s .filtered .len) (w .filtered-short)))
+      (clear (le-ltb (2 * l .keep) (s .samples .len) (w .samples-short))
+      (le-ltb (2 * l .keep) (s .filtered .len) (w .filtered-short)))
       (le-ltb (2 * l .keep) (s .step .len) (rw (w .step-len) (w .filtered-short))))
       (le-ltb (2 * l .keep) (s .power .len) (rw (w .power-len) (w .filtered-short)))))
       (clear
       (clear
       (clear
       (clear
-      (clear (le-ltb (2 ^ 49) (s .start .0) (w .start-near)) (le-ltb (2 ^ 49) (spanEnd (s .samples)) (w .samples-near)))
+      (clear (le-ltb (2 ^ 49) (s .start .0) (w .start-near))
+      (le-ltb (2 ^ 49) (spanEnd (s .samples)) (w .samples-near)))
       (le-ltb (2 ^ 49) (spanEnd (s .filtered)) (w .filtered-near)))
       (place-back (s .search) (w .place-near)))
       (held-back (s .hold .best) (w .held-near)))
       (block-back (s .hold .block) (w .block-near))))
-      (clear (spans-back (s .filtered) (s .step) (w .step-base) (w .step-len)) (spans-back (s .filtered) (s .power) (w .power-base) (w .power-len))))
+      (clear (spans-back (s .filtered) (s .step) (w .step-base) (w .step-len))
+      (spans-back (s .filtered) (s .power) (w .power-base) (w .power-len))))
       (not-unequal (spanEnd (s .filtered)) (filteredEnd l (s .start .0) (spanEnd (s .samples))) (w .filtered-end)))
       (le-ltb (spanEnd (s .filtered)) (s .samples .base .0 + l .delay) (w .samples-from)))
       (not-unequal (searchCount l (searchFrom (s .search) (s .filtered .base .0)) (spanEnd (s .filtered))) 0

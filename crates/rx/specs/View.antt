@@ -5,7 +5,7 @@ use lib.Ieee.{Float}
 use Rattle.complex.specs.Lists.{tabulate}
 use Rattle.level.specs.declared.Layout.{Layout}
 use Rattle.track.specs.Memory.{samplesPart, filteredPart, stepPart, powerPart, trackIn}
-use Rattle.rx.specs.declared.State.{State}
+use Rattle.state.specs.declared.State.{State}
 use Rattle.rx.specs.Receiver.{Carrier, Receiver}
 
 -- the tracks of carrier c

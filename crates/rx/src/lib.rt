@@ -9,12 +9,7 @@ ghost use Rattle.rx.specs.Numbers.{endWith};
 ghost use Rattle.rx.specs.Ready.{Ready};
 ghost use Rattle.rx.specs.Fed.{FollowedBy, SearchOnFits, SearchedOn, AcceptedBy};
 ghost use Rattle.rx.specs.Open.{openedState, openOutcome, outcome};
-ghost use Rattle.rx.specs.Conditions.{spanEnd};
-
-pub mod conditions;
-mod fault;
-pub mod places;
-
+ghost use Rattle.state.specs.Conditions.{spanEnd};
 use filter::Spans;
 use hold::Hold;
 use hold::Release;
@@ -23,26 +18,11 @@ use level::Layout;
 use refusal::Fault;
 use refusal::Position;
 use refusal::Refusal;
+pub use state::SearchPlace;
+pub use state::State;
+use state::fault;
+use state::places;
 use track::Span;
-
-// Where the search goes on: `search_next` of rx/psk.rs.
-pub enum SearchPlace {
-    Fresh,
-    At(Position),
-}
-
-// A receiver's state. The tracks' values are in the memory that each feed is lent.
-pub struct State {
-    pub bandwidth: u32,
-    pub rec: u32,
-    pub start: Position,
-    pub samples: Span,
-    pub filtered: Span,
-    pub step: Span,
-    pub power: Span,
-    pub search: SearchPlace,
-    pub hold: Hold,
-}
 
 // What a feed answers: at most one release.
 pub enum FeedAnswer {
@@ -97,7 +77,8 @@ pub fn open(
     start: Position,
     book: &[f64],
 ) -> OpenAnswer
-    ensures { λ r. ⌜ outcome r ≡ openOutcome bandwidth rec (now (markers .entry)) (now (phasors .entry)) (start .0) (now (book .entry)) ⌝ }
+    ensures { λ r. ⌜ outcome r ≡ openOutcome bandwidth rec (now (markers .entry)) (now (phasors .entry)) (start .0)
+        (now (book .entry)) ⌝ }
 {
     let chosen = level::choose(bandwidth, rec);
     match chosen {
@@ -127,8 +108,10 @@ fn follow(
     samples: &[f64],
     n: usize,
 ) -> Tracks
-    requires { ⌜ Ready l s (length (now memory)) (length (now samples) / 2) × (length (now book) ≡ 6000) × (n ≡ endWith l s (length (now samples) / 2) - spanEnd (s .filtered)) ⌝ }
-    ensures { λ r. ⌜ FollowedBy l (now (book .entry)) (now (samples .entry)) s (now (memory .entry)) (now (memory .exit)) r ⌝ }
+    requires { ⌜ Ready l s (length (now memory)) (length (now samples) / 2) × (length (now book) ≡ 6000)
+        × (n ≡ endWith l s (length (now samples) / 2) - spanEnd (s .filtered)) ⌝ }
+    ensures { λ r. ⌜ FollowedBy l (now (book .entry)) (now (samples .entry)) s (now (memory .entry))
+        (now (memory .exit)) r ⌝ }
 {
     let before = s.samples;
     let filtered = s.filtered;
@@ -159,8 +142,10 @@ fn search_on(
     tracks: Tracks,
     end: u64,
 ) -> FeedResult
-    requires { ⌜ SearchOnFits l (record { markers = now markers; phasors = now phasors }) s (length (now memory)) tracks end ⌝ }
-    ensures { λ r. ⌜ SearchedOn l (record { markers = now (markers .entry); phasors = now (phasors .entry) }) s (now (memory .entry)) tracks end r ⌝ }
+    requires { ⌜ SearchOnFits l (record { markers = now markers; phasors = now phasors }) s (length (now memory))
+        tracks end ⌝ }
+    ensures { λ r. ⌜ SearchedOn l (record { markers = now (markers .entry); phasors = now (phasors .entry) }) s
+        (now (memory .entry)) tracks end r ⌝ }
 {
     let filtered = s.filtered;
     let base = filtered.base;
@@ -214,8 +199,11 @@ fn accept(
     memory: &mut [f64],
     samples: &[f64],
 ) -> FeedResult
-    requires { ⌜ Ready l s (length (now memory)) (length (now samples) / 2) × (length (now book) ≡ 6000) × Markers l (now markers) × Phasors l (now phasors) ⌝ }
-    ensures { λ r. ⌜ AcceptedBy l (record { markers = now (markers .entry); phasors = now (phasors .entry) }) (now (book .entry)) (now (samples .entry)) s (now (memory .entry)) (now (memory .exit)) (length (now (samples .entry)) / 2) r ⌝ }
+    requires { ⌜ Ready l s (length (now memory)) (length (now samples) / 2) × (length (now book) ≡ 6000)
+        × Markers l (now markers) × Phasors l (now phasors) ⌝ }
+    ensures { λ r. ⌜ AcceptedBy l (record { markers = now (markers .entry); phasors = now (phasors .entry) })
+        (now (book .entry)) (now (samples .entry)) s (now (memory .entry)) (now (memory .exit))
+        (length (now (samples .entry)) / 2) r ⌝ }
 {
     let start = s.start;
     let before = s.samples;
@@ -242,7 +230,8 @@ pub fn feed(
     number: Position,
     samples: &[f64],
 ) -> FeedResult
-    ensures { λ r. ⌜ FedBy (given bandwidth rec (now (markers .entry)) (now (phasors .entry)) (now (book .entry)) (number .0) (now (samples .entry))) s (now (memory .entry)) (r .answer) (r .state) (now (memory .exit)) ⌝ }
+    ensures { λ r. ⌜ FedBy (given bandwidth rec (now (markers .entry)) (now (phasors .entry)) (now (book .entry))
+        (number .0) (now (samples .entry))) s (now (memory .entry)) (r .answer) (r .state) (now (memory .exit)) ⌝ }
 {
     let chosen = level::choose(bandwidth, rec);
     match chosen {

@@ -51,7 +51,8 @@ dataSum l t power p = cellSum l (allKept l t) power (cellReferenceOf l (t .phaso
 -- |a|² / pilots + |b|² / cells
 unfoldable pub chiOf : Layout → Tables → Complex → Complex → Float
 chiOf l t a b =
-    Ieee.add binary64 (Ieee.div binary64 (normSqr a) (whole (length (allMarks l t)))) (Ieee.div binary64 (normSqr b) (whole (length (allKept l t))))
+    Ieee.add binary64 (Ieee.div binary64 (normSqr a) (whole (length (allMarks l t))))
+    (Ieee.div binary64 (normSqr b) (whole (length (allKept l t))))
 
 -- chi at position p
 unfoldable pub chiAt : Layout → Tables → (ℕ → ℕ → Complex) → (ℕ → ℕ → Complex) → ℕ → Float

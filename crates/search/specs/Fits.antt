@@ -40,7 +40,11 @@ latest a (Released p x) = Released p x
 
 -- a search after one offer more
 unfoldable pub offeredNext : Offered → Offer → Offered
-offeredNext s o = record { next = offeredIn (s .next) o .next; release = latest (s .release) (offeredIn (s .next) o .release) }
+offeredNext s o =
+    record {
+      next = offeredIn (s .next) o .next;
+      release = latest (s .release) (offeredIn (s .next) o .release);
+    }
 
 -- the last of the detections
 unfoldable pub lastReleased : List Detection → Release

@@ -33,11 +33,15 @@ unfoldable pub flatChi : List Float → List ℕ → List Float → List ℕ →
 flatChi memory marks markRefs cells cellRefs n at =
     let a = dotAt memory marks markRefs at in
     let b = dotAt memory cells cellRefs at in
-    record { chi = Ieee.add binary64 (Ieee.div binary64 (normSqr a) (n .marks)) (Ieee.div binary64 (normSqr b) (n .cells)); «pilot_sum» = a }
+    record {
+      chi = Ieee.add binary64 (Ieee.div binary64 (normSqr a) (n .marks)) (Ieee.div binary64 (normSqr b) (n .cells));
+      «pilot_sum» = a;
+    }
 
 -- chi at position p, of tracks from base on
 abbrev pub flatMetric : List Float → List ℕ → List Float → List ℕ → List Float → ℕ → ℕ → Float
-flatMetric memory marks markRefs cells cellRefs base p = flatChi memory marks markRefs cells cellRefs (countsOf (length marks) (length cells)) (p - base) .chi
+flatMetric memory marks markRefs cells cellRefs base p =
+    flatChi memory marks markRefs cells cellRefs (countsOf (length marks) (length cells)) (p - base) .chi
 
 -- a search over tables of rows, one a carrier: at each block of its n positions they are inside a memory of `room` f64
 pub record FlatFits (room : ℕ) (marks : List ℕ) (markRefs : ℕ) (cells : List ℕ) (cellRefs carriers base lo n : ℕ)
@@ -51,7 +55,8 @@ pub record FlatFits (room : ℕ) (marks : List ℕ) (markRefs : ℕ) (cells : Li
   pub hold-fits : HoldFits h
 
 -- the tables of the marks and of the kept cells, built from accepted tables
-pub record Built (l : Layout) (t : Tables) (marks : List ℕ) (markRefs : List Float) (cells : List ℕ) (cellRefs : List Float) : Type 0 where
+pub record Built (l : Layout) (t : Tables) (marks : List ℕ) (markRefs : List Float) (cells : List ℕ)
+    (cellRefs : List Float) : Type 0 where
   pub layout : IsLayout l
   pub markers-ok : Markers l (t .markers)
   pub marks-tabled : Tabled Pilot l (t .markers) (t .phasors) marks markRefs

@@ -16,33 +16,42 @@ use Rattle.search.specs.Fits.{stepsIn, powersIn, Within}
 use Rattle.search.specs.Flat.{countsOf, flatChi, Built}
 use Rattle.search.specs.TableSum.{same-count, table-fits, table-sum}
 
-module _ (l : Layout) (t : Tables) (marks : List ℕ) (markRefs : List Float) (cells : List ℕ) (cellRefs : List Float) (b : Built l t marks markRefs cells cellRefs) where
+module _ (l : Layout) (t : Tables) (marks : List ℕ) (markRefs : List Float) (cells : List ℕ) (cellRefs : List Float)
+    (b : Built l t marks markRefs cells cellRefs) where
   marks-are : length (allMarks l t) ≡ length marks
   unfolding allMarks cellsIn
-  marks-are = sym (same-count Pilot l (t .markers) (t .phasors) (b .layout) (b .markers-ok) marks markRefs (b .marks-tabled))
+  marks-are = sym (same-count Pilot l (t .markers) (t .phasors) (b .layout) (b .markers-ok) marks markRefs
+      (b .marks-tabled))
 
   kept-are : length (allKept l t) ≡ length cells
   unfolding allKept cellsIn
-  kept-are = sym (same-count Data l (t .markers) (t .phasors) (b .layout) (b .markers-ok) cells cellRefs (b .cells-tabled))
+  kept-are = sym (same-count Data l (t .markers) (t .phasors) (b .layout) (b .markers-ok) cells cellRefs
+      (b .cells-tabled))
 
-  module _ (step power : Span) (e : power .base .0 ≡ step .base .0) (p : ℕ) (w : Within l step p) (v : Within l power p) where
+  module _ (step power : Span) (e : power .base .0 ≡ step .base .0) (p : ℕ) (w : Within l step p)
+      (v : Within l power p) where
     -- the tables are inside a memory whose tracks hold a frame at p
     pub chi-fits : (room : ℕ) → room ≡ 2 * memoryLength l → step .len ≤ 2 * l .keep → power .len ≤ 2 * l .keep
-        → DotFits room marks (length markRefs) (p - step .base .0) × DotFits room cells (length cellRefs) (p - step .base .0)
+        → DotFits room marks (length markRefs) (p - step .base .0)
+        × DotFits room cells (length cellRefs) (p - step .base .0)
     chi-fits room r n k = (
-      table-fits Pilot l (t .markers) (t .phasors) (b .layout) (b .markers-ok) marks markRefs (b .marks-tabled) room p step r n w,
-      rw (sym e) (table-fits Data l (t .markers) (t .phasors) (b .layout) (b .markers-ok) cells cellRefs (b .cells-tabled) room p power r k v),
+      table-fits Pilot l (t .markers) (t .phasors) (b .layout) (b .markers-ok) marks markRefs (b .marks-tabled) room p
+          step r n w,
+      rw (sym e) (table-fits Data l (t .markers) (t .phasors) (b .layout) (b .markers-ok) cells cellRefs
+          (b .cells-tabled) room p power r k v),
     )
 
     module _ (memory : List Float) where
       steps-are : pilotSum l t (stepsIn l memory step) p ≡ dotAt memory marks markRefs (p - step .base .0)
       unfolding pilotSum allMarks cellsIn
-      steps-are = table-sum Pilot l (t .markers) (t .phasors) (b .layout) (b .markers-ok) marks markRefs (b .marks-tabled) memory step p w
+      steps-are = table-sum Pilot l (t .markers) (t .phasors) (b .layout) (b .markers-ok) marks markRefs
+          (b .marks-tabled) memory step p w
 
       powers-are : dataSum l t (powersIn l memory power) p ≡ dotAt memory cells cellRefs (p - step .base .0)
       unfolding dataSum allKept cellsIn
       powers-are =
-          table-sum Data l (t .markers) (t .phasors) (b .layout) (b .markers-ok) cells cellRefs (b .cells-tabled) memory power p v
+          table-sum Data l (t .markers) (t .phasors) (b .layout) (b .markers-ok) cells cellRefs (b .cells-tabled)
+          memory power p v
           ∙ ap (λ (k : ℕ). dotAt memory cells cellRefs (p - k)) e
 
       -- what `chi_at` answers there

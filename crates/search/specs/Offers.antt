@@ -45,17 +45,20 @@ last-next [] (Released b m) = refl
 last-next (d ∷ []) (Released b m) = refl
 last-next (d ∷ e ∷ ds) (Released b m) = last-next (e ∷ ds) (Released b m)
 
-pub searched-none : (h : Hold) (chi : ℕ → Float) (lo : ℕ) → Searched h (offersFrom chi lo 0) (record { next = h; release = NoRelease })
+pub searched-none : (h : Hold) (chi : ℕ → Float) (lo : ℕ)
+    → Searched h (offersFrom chi lo 0) (record { next = h; release = NoRelease })
 unfolding offersFrom tabulate holdAfter releases lastReleased
 searched-none h chi lo = record { next = refl; release = refl }
 
-pub searched-next : (h : Hold) (os : List Offer) (o : Offer) (s : Offered) → Searched h os s → Searched h (os ++ (o ∷ [])) (offeredNext s o)
+pub searched-next : (h : Hold) (os : List Offer) (o : Offer) (s : Offered) → Searched h os s
+    → Searched h (os ++ (o ∷ [])) (offeredNext s o)
 unfolding holdAfter releases offeredNext
 searched-next h os o s w =
     record {
       next = ap (λ (k : Hold). offeredIn k o .next) (w .next) ∙ sym (holdAfter-append h os (o ∷ []));
       release = ap₂ (λ (a : Release) (k : Hold). latest a (offeredIn k o .release)) (w .release) (w .next)
-          ∙ sym (ap lastReleased (releases-append h os (o ∷ [])) ∙ last-next (releases h os) (offeredIn (holdAfter h os) o .release));
+          ∙ sym (ap lastReleased (releases-append h os (o ∷ []))
+          ∙ last-next (releases h os) (offeredIn (holdAfter h os) o .release));
     }
 
 -- ---- the hold's blocks stay small
@@ -70,7 +73,8 @@ either : (b : Bool) (x y : Held) → HeldBelow x → HeldBelow y → HeldBelow (
 either true x y u v = u
 either false x y u v = v
 
-taken-below : (block : Block) (best : Held) (p : Position) (c : Candidate) → p .0 < 2 ^ 50 → HeldBelow best → HeldBelow (taken block best p c)
+taken-below : (block : Block) (best : Held) (p : Position) (c : Candidate) → p .0 < 2 ^ 50 → HeldBelow best
+    → HeldBelow (taken block best p c)
 unfolding taken
 taken-below block best p NoCandidate h u = u
 taken-below block best p (Metric m) h u = either (atLeast p block && greater m best) (At p m) best h u
@@ -78,7 +82,11 @@ taken-below block best p (Metric m) h u = either (atLeast p block && greater m b
 module _ (h : Hold) (p : Position) (c : Candidate) (P : p .0 < 2 ^ 50) (f : HoldFits h) where
   keeping-fits : HoldFits (keeping h p c .next)
   unfolding keeping
-  keeping-fits = record { dead-small = f .dead-small; held-small = taken-below (h .block) (h .best) p c P (f .held-small) }
+  keeping-fits = record {
+    dead-small = f .dead-small;
+    held-small = taken-below (h .block) (h .best) p c P
+        (f .held-small);
+  }
 
   due-fits : (b : Position) (m : Float) (d : Bool) → HoldFits (cond d (releasing h b m) (keeping h p c) .next)
   unfolding releasing
@@ -96,10 +104,12 @@ module _ (h : Hold) (p : Position) (c : Candidate) (P : p .0 < 2 ^ 50) (f : Hold
 
 -- ---- what a search reads
 -- metrics that agree at the positions that are searched
-pub offers-ext : (f g : ℕ → Float) (lo n : ℕ) → ((i : ℕ) → i < n → f (lo + 2 * i) ≡ g (lo + 2 * i)) → offersFrom f lo n ≡ offersFrom g lo n
+pub offers-ext : (f g : ℕ → Float) (lo n : ℕ) → ((i : ℕ) → i < n → f (lo + 2 * i) ≡ g (lo + 2 * i))
+    → offersFrom f lo n ≡ offersFrom g lo n
 unfolding offersFrom
 offers-ext f g lo n h =
-    tabulate-ext (λ i. offerOf (lo + 2 * i) (f (lo + 2 * i))) (λ i. offerOf (lo + 2 * i) (g (lo + 2 * i))) n (λ i I. ap (offerOf (lo + 2 * i)) (h i I))
+    tabulate-ext (λ i. offerOf (lo + 2 * i) (f (lo + 2 * i))) (λ i. offerOf (lo + 2 * i) (g (lo + 2 * i))) n
+    (λ i I. ap (offerOf (lo + 2 * i)) (h i I))
 
 -- every position of a search has its cells before the end
 pub search-inside : (l : Layout) (p e i : ℕ) → i < searchCount l p e → p + 2 * i + reach l < e
@@ -113,18 +123,23 @@ cells-ext : (l : Layout) (xs : List Cell) (row row′ ref : ℕ → ℕ → Comp
     → cellSum l xs row ref p ≡ cellSum l xs row′ ref p
 unfolding cellSum
 cells-ext l xs row row′ ref p h =
-    sum-ext _ (λ k. let x = getD xs k (cellAt 0 0) in cmul (row′ (x .carrier) (cellPosition l p x)) (ref (x .carrier) (x .symbol))) (length xs)
-    (λ k K. let x = getD xs k (cellAt 0 0) in ap (λ (z : Complex). cmul z (ref (x .carrier) (x .symbol))) (h k (cellPosition l p x) K))
+    sum-ext _ (λ k. let x = getD xs k (cellAt 0 0) in cmul (row′ (x .carrier) (cellPosition l p x))
+    (ref (x .carrier) (x .symbol))) (length xs)
+    (λ k K. let x = getD xs k (cellAt 0 0) in ap (λ (z : Complex). cmul z (ref (x .carrier) (x .symbol)))
+    (h k (cellPosition l p x) K))
 
 -- rows that agree on the layout's carriers
-module _ (l : Layout) (t : Tables) (i : IsLayout l) (m : Markers l (t .markers)) (step step′ power power′ : ℕ → ℕ → Complex)
+module _ (l : Layout) (t : Tables) (i : IsLayout l) (m : Markers l (t .markers))
+    (step step′ power power′ : ℕ → ℕ → Complex)
     (u : (c n : ℕ) → c < l .nc → step c n ≡ step′ c n) (v : (c n : ℕ) → c < l .nc → power c n ≡ power′ c n) where
   pub chi-ext : (p : ℕ) → chiAt l t step power p ≡ chiAt l t step′ power′ p
   unfolding chiAt pilotSum dataSum allMarks allKept cellsIn
   chi-ext p =
       ap₂ (chiOf l t)
-      (cells-ext l (allMarks l t) step step′ (referenceOf l (t .phasors)) p (λ k n K. u _ n (cells-in-frame l (t .markers) i m Pilot k K .carrier)))
-      (cells-ext l (allKept l t) power power′ (cellReferenceOf l (t .phasors)) p (λ k n K. v _ n (cells-in-frame l (t .markers) i m Data k K .carrier)))
+      (cells-ext l (allMarks l t) step step′ (referenceOf l (t .phasors)) p
+      (λ k n K. u _ n (cells-in-frame l (t .markers) i m Pilot k K .carrier)))
+      (cells-ext l (allKept l t) power power′ (cellReferenceOf l (t .phasors)) p
+      (λ k n K. v _ n (cells-in-frame l (t .markers) i m Data k K .carrier)))
 
   pub offers-rows : (lo n : ℕ) → offersFrom (chiAt l t step power) lo n ≡ offersFrom (chiAt l t step′ power′) lo n
   offers-rows lo n = offers-ext (chiAt l t step power) (chiAt l t step′ power′) lo n (λ i I. chi-ext (lo + 2 * i))

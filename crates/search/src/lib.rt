@@ -58,8 +58,10 @@ pub fn chi_at(
     n: Counts,
     at: usize,
 ) -> Chi
-    requires { ⌜ DotFits (length (now memory)) (now marks) (length (now «mark_refs»)) at × DotFits (length (now memory)) (now cells) (length (now «cell_refs»)) at ⌝ }
-    ensures { λ r. ⌜ r ≡ flatChi (now (memory .entry)) (now (marks .entry)) (now («mark_refs» .entry)) (now (cells .entry)) (now («cell_refs» .entry)) n at ⌝ }
+    requires { ⌜ DotFits (length (now memory)) (now marks) (length (now «mark_refs»)) at
+        × DotFits (length (now memory)) (now cells) (length (now «cell_refs»)) at ⌝ }
+    ensures { λ r. ⌜ r ≡ flatChi (now (memory .entry)) (now (marks .entry)) (now («mark_refs» .entry))
+        (now (cells .entry)) (now («cell_refs» .entry)) n at ⌝ }
 {
     let pilot_sum = chi::dot(memory, marks, mark_refs, at);
     let data_sum = chi::dot(memory, cells, cell_refs, at);
@@ -116,7 +118,8 @@ fn offer_block(
     bi: &[f64],
 ) -> Offered
     requires { ⌜ SumsFit s p (length (now ar)) (length (now ai)) (length (now br)) (length (now bi)) ⌝ }
-    ensures { λ r. ⌜ r ≡ offeredAll s (offersBy n (now (ar .entry)) (now (ai .entry)) (now (br .entry)) (now (bi .entry)) p) ⌝ }
+    ensures { λ r. ⌜ r ≡ offeredAll s (offersBy n (now (ar .entry)) (now (ai .entry)) (now (br .entry))
+        (now (bi .entry)) p) ⌝ }
 {
     let mut t = s;
     let mut j = 0;
@@ -146,9 +149,12 @@ fn block_through(
     zr: &mut [f64],
     zi: &mut [f64],
 ) -> Offered
-    requires { ⌜ BlockFits (length (now memory)) (now marks) (length (now «mark_refs»)) (now cells) (length (now «cell_refs»)) carriers base p (length (now ar)) (length (now zr)) (length (now zi)) s
+    requires { ⌜ BlockFits (length (now memory)) (now marks) (length (now «mark_refs»)) (now cells)
+        (length (now «cell_refs»)) carriers base p (length (now ar)) (length (now zr)) (length (now zi)) s
         × BlockRoom (now ar) (now ai) (now br) (now bi) ⌝ }
-    ensures { λ r. ⌜ r ≡ offeredAll s (offersFrom (flatMetric (now (memory .entry)) (now (marks .entry)) (now («mark_refs» .entry)) (now (cells .entry)) (now («cell_refs» .entry)) base) p (length (now (ar .entry)))) ⌝ }
+    ensures { λ r. ⌜ r ≡ offeredAll s (offersFrom (flatMetric (now (memory .entry)) (now (marks .entry))
+        (now («mark_refs» .entry)) (now (cells .entry)) (now («cell_refs» .entry)) base) p (length (now (ar
+        .entry)))) ⌝ }
 {
     let at = (p - base) as usize;
     blocks::dots(ar, ai, memory, marks, mark_refs, carriers, at, zr, zi);
@@ -170,8 +176,10 @@ fn search_block(
     m: usize,
     s: Offered,
 ) -> Offered
-    requires { ⌜ BlockFits (length (now memory)) (now marks) (length (now «mark_refs»)) (now cells) (length (now «cell_refs»)) carriers base p m 9248 9248 s × (m ≤ 2048) ⌝ }
-    ensures { λ r. ⌜ r ≡ offeredAll s (offersFrom (flatMetric (now (memory .entry)) (now (marks .entry)) (now («mark_refs» .entry)) (now (cells .entry)) (now («cell_refs» .entry)) base) p m) ⌝ }
+    requires { ⌜ BlockFits (length (now memory)) (now marks) (length (now «mark_refs»)) (now cells)
+        (length (now «cell_refs»)) carriers base p m 9248 9248 s × (m ≤ 2048) ⌝ }
+    ensures { λ r. ⌜ r ≡ offeredAll s (offersFrom (flatMetric (now (memory .entry)) (now (marks .entry))
+        (now («mark_refs» .entry)) (now (cells .entry)) (now («cell_refs» .entry)) base) p m) ⌝ }
 {
     let mut ar = [0.0; 2048];
     let mut ai = [0.0; 2048];
@@ -221,8 +229,10 @@ fn search_tables(
     count: usize,
     h: Hold,
 ) -> Offered
-    requires { ⌜ FlatFits (length (now memory)) (now marks) (length (now «mark_refs»)) (now cells) (length (now «cell_refs»)) carriers base lo count h ⌝ }
-    ensures { λ r. ⌜ Searched h (offersFrom (flatMetric (now (memory .entry)) (now (marks .entry)) (now («mark_refs» .entry)) (now (cells .entry)) (now («cell_refs» .entry)) base) lo count) r ⌝ }
+    requires { ⌜ FlatFits (length (now memory)) (now marks) (length (now «mark_refs»)) (now cells)
+        (length (now «cell_refs»)) carriers base lo count h ⌝ }
+    ensures { λ r. ⌜ Searched h (offersFrom (flatMetric (now (memory .entry)) (now (marks .entry))
+        (now («mark_refs» .entry)) (now (cells .entry)) (now («cell_refs» .entry)) base) lo count) r ⌝ }
 {
     let mut s = Offered {
         next: h,
@@ -264,9 +274,14 @@ fn search_through(
     cells: &mut [usize],
     cell_refs: &mut [f64],
 ) -> Offered
-    requires { ⌜ SearchFits l (record { markers = now markers; phasors = now phasors }) (length (now memory)) step power lo count h
-        × TableRoom Pilot l (length (now marks)) (length (now «mark_refs»)) × TableRoom Data l (length (now cells)) (length (now «cell_refs»)) ⌝ }
-    ensures { λ r. ⌜ Searched h (offersIn l (record { markers = now (markers .entry); phasors = now (phasors .entry) }) (now (memory .entry)) step power lo count) r ⌝ }
+    requires { ⌜ SearchFits l (record { markers = now markers; phasors = now phasors }) (length (now memory)) step
+        power lo count h
+        × TableRoom Pilot l (length (now marks)) (length (now «mark_refs»))
+        × TableRoom Data l (length (now cells)) (length (now «cell_refs»)) ⌝ }
+    ensures { λ r. ⌜ Searched h (offersIn l (record {
+      markers = now (markers .entry);
+      phasors = now (phasors .entry);
+    }) (now (memory .entry)) step power lo count) r ⌝ }
 {
     chi::table(l, markers, phasors, Sum::Pilot, marks, mark_refs);
     chi::table(l, markers, phasors, Sum::Data, cells, cell_refs);
@@ -296,8 +311,12 @@ pub fn search(
     count: usize,
     h: Hold,
 ) -> Offered
-    requires { ⌜ SearchFits l (record { markers = now markers; phasors = now phasors }) (length (now memory)) step power lo count h ⌝ }
-    ensures { λ r. ⌜ Searched h (offersIn l (record { markers = now (markers .entry); phasors = now (phasors .entry) }) (now (memory .entry)) step power lo count) r ⌝ }
+    requires { ⌜ SearchFits l (record { markers = now markers; phasors = now phasors }) (length (now memory)) step
+        power lo count h ⌝ }
+    ensures { λ r. ⌜ Searched h (offersIn l (record {
+      markers = now (markers .entry);
+      phasors = now (phasors .entry);
+    }) (now (memory .entry)) step power lo count) r ⌝ }
 {
     let m = l.nc * chi::per_carrier(l, Sum::Pilot);
     let n = l.nc * chi::per_carrier(l, Sum::Data);

@@ -1,4 +1,4 @@
--- "Symbols .. as written" (01, "Reading"; `symbols` of rx/psk.rs), of endless rows. Definitions only.
+-- The symbols of a frame (01, "Reading"; `symbols` of rx/psk.rs), of endless rows. Definitions only.
 use Prim.Native.Nat.{ℕ, _+_, _-_, _*_, _/_, _%_}
 use mathlib.Core.Bool.{cond}
 use mathlib.Core.List.{List}
@@ -25,12 +25,12 @@ driftLength l = reach l + 2 * l .delay + 2
 abbrev pub symbolPosition : Layout → ℕ → ℕ → ℕ → ℕ
 symbolPosition l p c k = p + stagger (l .nc) c + 32 * k
 
--- that symbol before its phasor: where "drift rows are empty", the filtered value
+-- that symbol before its phasor: where "Drift rows are empty", the filtered value
 abbrev pub filteredSymbol : Layout → (ℕ → ℕ → Complex) → ℕ → ℕ → ℕ → Complex
 filteredSymbol l filtered p c k = filtered c (symbolPosition l p c k)
 
--- or the samples turned by the drift rows ("`rot` with drift .. lent rows") and filtered:
--- entry i of a row is for sample p − delay − 1 + i
+-- or the samples turned by the drift rows ("`rot` with drift, and cosine and sine of carrier phases: lent rows.") and
+-- filtered: entry i of a row is for sample p − delay − 1 + i
 unfoldable pub driftSymbol : Layout → List Float → (ℕ → Complex) → ℕ → ℕ → ℕ → Complex
 driftSymbol l drift samples p c k =
     sumTo
@@ -40,7 +40,7 @@ driftSymbol l drift samples p c k =
     cscale turned (receiverTap (pulseOf (l .taps)) j))
     (l .taps)
 
--- "Drift rows are empty, or cover positions ..": the symbol with its phasor
+-- "Drift rows are empty, or cover positions": the symbol with its phasor, by either
 unfoldable pub symbolAt : Layout → List Float → List Float → (ℕ → Complex) → (ℕ → ℕ → Complex) → ℕ → ℕ → ℕ → Complex
 symbolAt l phasors drift samples filtered p c k =
     cmul

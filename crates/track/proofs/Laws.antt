@@ -15,10 +15,12 @@ use Rattle.complex.specs.Pairs.{cget, cset, complexes}
 use Rattle.complex.specs.PairLaws.{complexes-length}
 use Rattle.level.specs.declared.Layout.{Layout}
 use Rattle.track.specs.declared.Span.{Span}
-use Rattle.track.specs.Window.{window, window-append, window-drop}
+use Rattle.track.specs.Window.{window}
+use Rattle.track.specs.WindowLaws.{window-append, window-drop}
 use Rattle.track.specs.Track.{trimmedBase, append}
 use Rattle.track.specs.Memory.{partLength, trackIn}
-use Rattle.track.specs.Kept.{Stored, kept-none, kept-wider, kept-join, part-within}
+use Rattle.track.specs.Kept.{Stored}
+use Rattle.track.specs.KeptLaws.{kept-none, kept-wider, kept-join, part-within}
 use Rattle.track.specs.Append.{spanEnd, spanAfter, AppendFits, Appended}
 use Rattle.track.specs.Trims.{base-kept, base-cut, span-trimmed, span-end, span-short}
 

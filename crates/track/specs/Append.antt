@@ -1,4 +1,4 @@
--- An append to a track in memory (01, "Tracks and filter"): the span it leaves, what it asks, what it ensures. Definitions only.
+-- An append to a track in memory (01, "Tracks and filter"): what it asks, and what it leaves. Definitions only.
 use Prim.Native.Nat.{ℕ, suc, _+_, _-_, _*_, _^_, _≤_, _<_}
 use mathlib.Core.Path.{_≡_}
 use mathlib.Core.List.{List}
@@ -35,7 +35,8 @@ pub record AppendFits (l : Layout) (room k : ℕ) (span : Span) (lent n : ℕ) :
   pub few : n ≤ 4000
 
 -- memory m before it, q after it: the track has the new values at its end, every other part is as it was
-pub record Appended (l : Layout) (m q : List Float) (k : ℕ) (before : Span) (new : List Float) (n : ℕ) (after : Span) : Type 0 where
+pub record Appended (l : Layout) (m q : List Float) (k : ℕ) (before : Span) (new : List Float) (n : ℕ)
+    (after : Span) : Type 0 where
   pub span : after ≡ spanAfter (l .keep) before n
   pub track : trackIn l q k after ≡ append (l .keep) (trackIn l m k before) (complexes new 0 n)
   pub others : PartsKept l m q k (suc k)

@@ -1,4 +1,5 @@
--- The one lent memory (01, "Where each fault is met"): "samples, then by carrier filtered, step, power, each track at its part's start". Definitions only.
+-- The one lent memory (01, "Where each fault is met"). Definitions only.
+-- "samples, then by carrier filtered, step, power, each track at its part's start"
 use Prim.Native.Nat.{ℕ, _+_, _*_}
 use mathlib.Core.List.{List}
 use lib.Ieee.{Float}

@@ -16,7 +16,7 @@ pub record Track : Type 0 where
 abbrev pub endOf : Track → ℕ
 endOf t = t .base + length (t .values)
 
--- the value at position i. DECISIONS, "A value outside its track": "Reads as zero, both parts +0", on either side
+-- the value at position i; outside the track it is zero, both parts +0, on either side (docs/DECISIONS.md)
 unfoldable pub valueAt : Track → ℕ → Complex
 valueAt t i = cond (leb (t .base) i) (getD (t .values) (i - t .base) czero) czero
 

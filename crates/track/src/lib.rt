@@ -61,7 +61,8 @@ fn store(memory: &mut [f64], at: usize, new: &[f64], count: usize)
 // Moves the `count` complex numbers that stand `cut` places after place `at` down to it.
 fn move_down(memory: &mut [f64], at: usize, cut: usize, count: usize)
     requires { ⌜ 2 * (at + cut + count) ≤ length (now memory) ⌝ }
-    ensures { λ _. ⌜ Stored (now (memory .entry)) (now (memory .exit)) at count (λ i. cget (now (memory .entry)) (at + cut + i)) ⌝ }
+    ensures { λ _. ⌜ Stored (now (memory .entry)) (now (memory .exit)) at count
+        (λ i. cget (now (memory .entry)) (at + cut + i)) ⌝ }
 {
     let mut i = 0;
     while i < count {

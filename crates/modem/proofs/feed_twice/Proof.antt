@@ -14,7 +14,8 @@ same-length : tie.Need-same-length
 same-length c = search needs
 
 returns : tie.Need-returns
-returns c = next (c .before .before .before .before .before .before .before .before .feed .ensures) (next (c .before .before .before .feed2 .ensures) none)
+returns c = next (c .before .before .before .before .before .before .before .before .feed .ensures)
+    (next (c .before .before .before .feed2 .ensures) none)
 
 pub feed-twice-spec : {M : Type 1} → statement M
 feed-twice-spec = tie.close (tie.spec feed-requires feed-requires-2 same-length returns)

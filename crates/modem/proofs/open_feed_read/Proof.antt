@@ -1,9 +1,10 @@
--- `modem::open_feed_read` meets its contract: the postconditions of the calls in it, one after the other. Assumes nothing.
+-- `modem::open_feed_read` meets its contract: the postconditions of the calls in it, one after the other. Assumes
+-- nothing.
 use mathlib.Core.Path.{_≡_, refl, sym, ap, _∙_}
 use Rattle.refusal.specs.declared.Refusal.{Refusal}
 use Rattle.refusal.specs.Refusal.{numberOf}
 use Rattle.refusal.specs.Outcome.{refused, answered}
-use Rattle.rx.specs.declared.State.{State}
+use Rattle.state.specs.declared.State.{State}
 use Rattle.rx.specs.declared.OpenAnswer.{OpenAnswer}
 use Rattle.rx.specs.declared.OpenAnswer.the-variants.{Opened, Refused}
 use Rattle.rx.specs.Open.{outcome}
@@ -12,10 +13,12 @@ use borrow.Author.Needs.{needs}
 use Rattle.modem.proofs.open_feed_read.Statement.{statement}
 use Rattle.modem.proofs.open_feed_read.Tie as tie
 
-not-opened : (o : Opening) (r : OpenAnswer) (f : Refusal) → outcome r ≡ openingOutcome o → r ≡ Refused f → openingOutcome o ≡ refused (numberOf f)
+not-opened : (o : Opening) (r : OpenAnswer) (f : Refusal) → outcome r ≡ openingOutcome o → r ≡ Refused f
+    → openingOutcome o ≡ refused (numberOf f)
 not-opened o r f e h = sym e ∙ ap outcome h
 
-opened : (o : Opening) (r : OpenAnswer) (s : State) → outcome r ≡ openingOutcome o → r ≡ Opened s → openingOutcome o ≡ answered s
+opened : (o : Opening) (r : OpenAnswer) (s : State) → outcome r ≡ openingOutcome o → r ≡ Opened s → openingOutcome o
+    ≡ answered s
 opened o r s e h = sym e ∙ ap outcome h
 
 open-requires : tie.Need-open-requires
@@ -47,7 +50,12 @@ same-length-3 c = search needs
 
 returns-2 : tie.Need-returns-2
 returns-2 c = (
-  record { opened = _; opens = opened _ _ _ (c .before .before .before .before .before .before .before .before .before .before .before .before .before .before .before .«open» .ensures) (c .before .before .before .before .before .before .before .before .before .before .before .before .before .opened2 .given .1); calls = c .before .before .before .before .before .before .before .before .before .before .feed-twice .ensures },
+  record {
+    opened = _;
+    opens = opened _ _ _
+        (c .before .before .before .before .before .before .before .before .before .before .before .before .before .before .before .«open» .ensures) (c .before .before .before .before .before .before .before .before .before .before .before .before .before .opened2 .given .1);
+    calls = c .before .before .before .before .before .before .before .before .before .before .feed-twice .ensures;
+  },
   c .before .before .before .before .read-last .ensures,
 )
 

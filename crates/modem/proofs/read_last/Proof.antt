@@ -1,4 +1,5 @@
--- `modem::read_last` meets its contract: what is found is the last release, and the reading stands there. Assumes nothing.
+-- `modem::read_last` meets its contract: what is found is the last release, and the reading stands there. Assumes
+-- nothing.
 use mathlib.Core.Path.{_≡_, refl, sym, ap₂, _∙_}
 use Rattle.rx.specs.declared.FeedAnswer.{FeedAnswer}
 use Rattle.modem.specs.declared.Found.{Found}
@@ -8,7 +9,8 @@ use borrow.Author.Needs.{needs}
 use Rattle.modem.proofs.read_last.Statement.{statement}
 use Rattle.modem.proofs.read_last.Tie as tie
 
-last : (a b : FeedAnswer) (x y z w : Found) → x ≡ releasedAt a → y ≡ releasedAt b → z ≡ run.later x y → z ≡ w → run.later (releasedAt a) (releasedAt b) ≡ w
+last : (a b : FeedAnswer) (x y z w : Found) → x ≡ releasedAt a → y ≡ releasedAt b → z ≡ run.later x y → z ≡ w
+    → run.later (releasedAt a) (releasedAt b) ≡ w
 last a b x y z w p q r e = ap₂ run.later (sym p) (sym q) ∙ sym r ∙ e
 
 released-at-requires : tie.Need-released-at-requires
@@ -31,7 +33,8 @@ read-requires c κs = search needs
 
 returns : tie.Need-returns
 returns c = (
-  last _ _ _ _ _ _ (c .before .before .before .before .released-at .ensures) (c .before .before .before .released-at2 .ensures) (c .before .before .later .ensures) (c .enum-told .given .1),
+  last _ _ _ _ _ _ (c .before .before .before .before .released-at .ensures)
+      (c .before .before .before .released-at2 .ensures) (c .before .before .later .ensures) (c .enum-told .given .1),
   refl,
   refl,
 )
@@ -44,7 +47,8 @@ same-length-2 c = search needs
 
 returns-2 : tie.Need-returns-2
 returns-2 c = (
-  last _ _ _ _ _ _ (c .before .before .before .before .before .before .before .before .before .before .before .before .released-at .ensures) (c .before .before .before .before .before .before .before .before .before .before .before .released-at2 .ensures) (c .before .before .before .before .before .before .before .before .before .before .later .ensures) (c .before .before .before .before .before .before .before .before .found .given .1),
+  last _ _ _ _ _ _
+      (c .before .before .before .before .before .before .before .before .before .before .before .before .released-at .ensures) (c .before .before .before .before .before .before .before .before .before .before .before .released-at2 .ensures) (c .before .before .before .before .before .before .before .before .before .before .later .ensures) (c .before .before .before .before .before .before .before .before .found .given .1),
   c .before .before .before .before .read .ensures,
 )
 

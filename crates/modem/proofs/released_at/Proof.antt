@@ -21,7 +21,8 @@ no-release : (a : FeedAnswer) (r : Release) → a ≡ Accepted r → r ≡ NoRel
 unfolding releasedAt
 no-release a r e h = rw (e, h)
 
-release : (a : FeedAnswer) (r : Release) (p : Position) (m : Float) → a ≡ Accepted r → r ≡ Released p m → At p ≡ releasedAt a
+release : (a : FeedAnswer) (r : Release) (p : Position) (m : Float) → a ≡ Accepted r → r ≡ Released p m → At p
+    ≡ releasedAt a
 unfolding releasedAt
 release a r p m e h = rw (e, h)
 

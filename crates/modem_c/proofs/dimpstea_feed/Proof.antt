@@ -21,13 +21,14 @@ use Rattle.level.specs.RowLaws.{is-layout, at-most}
 use Rattle.dat.specs.Tables.{tableFault}
 use Rattle.hold.specs.declared.Release.{Release}
 use Rattle.hold.specs.Releases.{released}
-use Rattle.rx.specs.declared.State.{State}
+use Rattle.state.specs.declared.State.{State}
 use Rattle.rx.specs.declared.FeedResult.{FeedResult}
 use Rattle.rx.specs.declared.FeedAnswer.the-variants.{Accepted, Refused}
 use Rattle.rx.specs.Receiver.{fed}
 use Rattle.rx.specs.View.{view}
-use Rattle.rx.specs.Conditions.{wrongBook, wrongState}
-use Rattle.rx.specs.Feed.{Given, sampleFault, feedFault, feedOf, feedOutcome, outcome, FedBy}
+use Rattle.state.specs.Conditions.{wrongBook, wrongState}
+use Rattle.state.specs.Faults.{sampleFault}
+use Rattle.rx.specs.Feed.{Given, feedFault, feedOf, feedOutcome, outcome, FedBy}
 use Rattle.rx.specs.Sound.{sound}
 use Rattle.modem_c.specs.Numbers.{stateAt, stateOf, numbersOf, metricOf}
 use Rattle.modem_c.specs.Calls.{LentRelease, lentState, releaseAfter, FeedCall}

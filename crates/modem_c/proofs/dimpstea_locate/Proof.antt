@@ -9,7 +9,7 @@ use Rattle.refusal.specs.declared.Refusal.{Refusal}
 use Rattle.refusal.specs.Refusal.{numberOf}
 use Rattle.refusal.specs.Outcome.{refused, answered}
 use Rattle.locate.specs.declared.Located.{Located}
-use Rattle.rx.specs.declared.State.{State}
+use Rattle.state.specs.declared.State.{State}
 use Rattle.reading.specs.declared.LocateAnswer.{LocateAnswer}
 use Rattle.reading.specs.declared.LocateAnswer.the-variants.{Found, Refused}
 use Rattle.reading.specs.Read.{Asked, locateOutcome, locateAnswered, LocatedBy}

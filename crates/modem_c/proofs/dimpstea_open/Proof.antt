@@ -18,11 +18,12 @@ use Rattle.level.specs.declared.Layout.{Layout}
 use Rattle.level.specs.Level.{Level, levels, lookup, isBandwidth, isRecord, levelOf}
 use Rattle.level.specs.Layout.{layoutOf, chosen}
 use Rattle.dat.specs.Tables.{wrongLength, wrongValue, wrongFlag, wrongCount, wrongSize, markerFault, phasorFault, tableFault}
-use Rattle.rx.specs.declared.State.{State}
+use Rattle.state.specs.declared.State.{State}
 use Rattle.rx.specs.declared.OpenAnswer.{OpenAnswer}
 use Rattle.rx.specs.declared.OpenAnswer.the-variants.{Opened, Refused}
-use Rattle.rx.specs.Conditions.{wrongStart, wrongBook}
-use Rattle.rx.specs.Open.{openedState, startFault, openFault, openOutcome, outcome}
+use Rattle.state.specs.Conditions.{wrongStart, wrongBook}
+use Rattle.state.specs.Faults.{startFault, openFault}
+use Rattle.rx.specs.Open.{openedState, openOutcome, outcome}
 use Rattle.modem_c.specs.Numbers.{numbersOf, metricOf}
 use Rattle.modem_c.specs.Calls.{openedInto, OpenCall}
 use borrow.Author.Needs.{needs}

@@ -9,9 +9,9 @@ use Rattle.dat.specs.Accepted.{Markers, Phasors}
 use Rattle.filter.specs.declared.Spans.{Spans}
 use Rattle.filter.specs.Filter.{filteredEnd}
 use Rattle.search.specs.Chi.{Tables}
-use Rattle.rx.specs.declared.State.{State}
+use Rattle.state.specs.declared.State.{State}
 use Rattle.rx.specs.declared.Tracks.{Tracks}
-use Rattle.rx.specs.Conditions.{spanEnd}
+use Rattle.state.specs.Conditions.{spanEnd}
 use Rattle.rx.specs.Numbers.{endWith}
 use Rattle.rx.specs.Ready.{Ready}
 use Rattle.rx.specs.Fed.{FollowedBy, SearchOnFits, accepted}

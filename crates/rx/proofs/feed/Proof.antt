@@ -23,12 +23,13 @@ use Rattle.level.specs.SizedLaws.{sized}
 use Rattle.dat.specs.Tables.{tableFault}
 use Rattle.dat.specs.Accepted.{Markers, Phasors}
 use Rattle.dat.specs.AcceptedLaws.{tables-of}
-use Rattle.rx.specs.declared.State.{State}
+use Rattle.state.specs.declared.State.{State}
 use Rattle.rx.specs.declared.FeedAnswer.the-variants.{Refused}
 use Rattle.rx.specs.Receiver.{fed}
 use Rattle.rx.specs.View.{view}
-use Rattle.rx.specs.Conditions.{wrongBook, wrongState, tooMany, wrongSamples}
-use Rattle.rx.specs.Feed.{Given, given, sampleFault, feedFault, feedOf, feedOutcome, FedBy}
+use Rattle.state.specs.Conditions.{wrongBook, wrongState, tooMany, wrongSamples}
+use Rattle.state.specs.Faults.{sampleFault}
+use Rattle.rx.specs.Feed.{Given, given, feedFault, feedOf, feedOutcome, FedBy}
 use Rattle.rx.specs.Sound.{sound}
 use Rattle.rx.specs.Ready.{Ready}
 use Rattle.rx.specs.Fed.{fed-by}

@@ -9,8 +9,8 @@ use Rattle.level.specs.declared.Layout.{Layout}
 use Rattle.track.specs.declared.Span.{Span}
 use Rattle.filter.specs.declared.Spans.{Spans}
 use Rattle.filter.specs.Filtered.{FilterFits, Filtered}
-use Rattle.rx.specs.declared.State.{State}
-use Rattle.rx.specs.Conditions.{spanEnd}
+use Rattle.state.specs.declared.State.{State}
+use Rattle.state.specs.Conditions.{spanEnd}
 use Rattle.rx.specs.Numbers.{endWith}
 use Rattle.rx.specs.Accept.{spansOf}
 use Rattle.rx.specs.Ready.{append-fits, filter-fits}

@@ -18,9 +18,10 @@ use Rattle.level.specs.Layout as Level
 use Rattle.level.specs.RowLaws.{is-layout}
 use Rattle.level.specs.SizedLaws.{sized}
 use Rattle.dat.specs.Tables.{tableFault}
-use Rattle.rx.specs.declared.State.{State}
-use Rattle.rx.specs.Conditions.{wrongStart}
-use Rattle.rx.specs.Open.{openedState, startFault, openFault, openOutcome}
+use Rattle.state.specs.declared.State.{State}
+use Rattle.state.specs.Conditions.{wrongStart}
+use Rattle.state.specs.Faults.{startFault, openFault}
+use Rattle.rx.specs.Open.{openedState, openOutcome}
 use Rattle.rx.proofs.open.Statement.{statement}
 use Rattle.rx.proofs.open.Tie as tie
 

@@ -4,8 +4,8 @@ use mathlib.Core.Path.{_≡_, refl}
 use Rattle.hold.specs.declared.Hold.{Hold}
 use Rattle.hold.specs.Offer.{freshHold}
 use Rattle.rx.specs.Open.{openedState, emptySpan}
-use Rattle.rx.specs.declared.State.{State}
-use Rattle.rx.specs.declared.SearchPlace.the-variants.{Fresh}
+use Rattle.state.specs.declared.State.{State}
+use Rattle.state.specs.declared.SearchPlace.the-variants.{Fresh}
 use Rattle.level.specs.declared.Layout.{Layout}
 use borrow.Author.Needs.{needs}
 use Rattle.rx.proofs.opened.Statement.{statement}

@@ -10,12 +10,12 @@ use Rattle.hold.specs.declared.Offered.{Offered}
 use Rattle.search.specs.Search.{searchCount}
 use Rattle.search.specs.Chi.{Tables}
 use Rattle.search.specs.Fits.{offersIn, Searched, SearchFits}
-use Rattle.rx.specs.declared.SearchPlace.{SearchPlace}
-use Rattle.rx.specs.declared.State.{State}
+use Rattle.state.specs.declared.SearchPlace.{SearchPlace}
+use Rattle.state.specs.declared.State.{State}
 use Rattle.rx.specs.declared.Tracks.{Tracks}
 use Rattle.rx.specs.declared.FeedResult.{FeedResult}
 use Rattle.rx.specs.declared.FeedAnswer.the-variants.{Accepted}
-use Rattle.rx.specs.Receiver.{placeAfter}
+use Rattle.state.specs.Places.{placeAfter}
 use Rattle.rx.specs.Numbers.{placeIn}
 use Rattle.rx.specs.Ready.{search-fits, searched-near}
 use Rattle.rx.specs.Fed.{SearchOnFits, SearchedOn}

@@ -1,7 +1,7 @@
 -- `track::part_start` meets its contract: no part starts past the memory. Assumes nothing.
 use native.Mathlib.Omega.{arith}
 use borrow.Author.Needs.{needs}
-use Rattle.track.specs.Kept.{part-within}
+use Rattle.track.specs.KeptLaws.{part-within}
 use Rattle.track.proofs.part_start.Statement.{statement}
 use Rattle.track.proofs.part_start.Tie as tie
 

@@ -7,8 +7,8 @@ use lib.Dec.{ltb}
 use borrow.Author.Tests.{lt-ltb, le-ltb}
 use Rattle.level.specs.declared.Layout.{Layout}
 use Rattle.search.specs.Search.{reach}
-use Rattle.rx.specs.declared.State.{State}
-use Rattle.rx.specs.Conditions.{spanEnd}
+use Rattle.state.specs.declared.State.{State}
+use Rattle.state.specs.Conditions.{spanEnd}
 use Rattle.reading.specs.Conditions.{framePast}
 use borrow.Author.Needs.{needs}
 use Rattle.reading.proofs.conditions.frame_past.Statement.{statement}

@@ -5,7 +5,7 @@ use mathlib.Core.Bool.{Bool, true, false}
 use mathlib.Core.List.{List}
 use lib.Ieee.{Float}
 use Rattle.level.specs.declared.Layout.{Layout}
-use Rattle.rx.specs.declared.State.{State}
+use Rattle.state.specs.declared.State.{State}
 use Rattle.reading.specs.Conditions.{framePast, samplesPast, notInHand}
 use borrow.Author.Needs.{needs}
 use Rattle.reading.proofs.conditions.not_in_hand.Statement.{statement}

@@ -7,7 +7,7 @@ use lib.Ieee.{nan, neg}
 use Rattle.refusal.specs.Any.{any}
 use Rattle.refusal.specs.AnyLaws.{any-none, any-more, any-at, any-done}
 use Rattle.laws.specs.Tests.{inRange}
-use Rattle.rx.specs.Conditions.{one}
+use Rattle.state.specs.Conditions.{one}
 use borrow.Author.Needs.{needs}
 use native.Mathlib.Omega.{arith}
 use Rattle.reading.proofs.conditions.outside_one.Statement.{statement}

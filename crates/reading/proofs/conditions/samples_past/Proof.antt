@@ -8,7 +8,7 @@ use lib.ListN.{length}
 use lib.Ieee.{Float}
 use borrow.Author.Tests.{eq-eqb, ne-eqb}
 use Rattle.level.specs.declared.Layout.{Layout}
-use Rattle.rx.specs.declared.State.{State}
+use Rattle.state.specs.declared.State.{State}
 use Rattle.reading.specs.Conditions.{samplesPast}
 use borrow.Author.Needs.{needs}
 use Rattle.reading.proofs.conditions.samples_past.Statement.{statement}

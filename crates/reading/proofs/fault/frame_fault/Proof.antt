@@ -8,9 +8,9 @@ use Rattle.refusal.specs.declared.Refusal.the-variants as no
 use Rattle.refusal.specs.declared.Fault.the-variants.{Clear, Met}
 use Rattle.level.specs.declared.Layout.{Layout}
 use Rattle.level.specs.SizedLaws.{sized}
-use Rattle.rx.specs.declared.State.{State}
-use Rattle.rx.specs.Near.{near-state}
-use Rattle.rx.specs.Conditions.{wrongState}
+use Rattle.state.specs.declared.State.{State}
+use Rattle.state.specs.Near.{near-state}
+use Rattle.state.specs.Conditions.{wrongState}
 use Rattle.reading.specs.Conditions.{wrongBuffers, notInHand, wrongDrift}
 use Rattle.reading.specs.Read.{frameFault}
 use borrow.Author.Needs.{needs}

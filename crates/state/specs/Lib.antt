@@ -1,0 +1,4 @@
+pub mod Places
+pub mod Conditions
+pub mod Near
+pub mod Faults
