@@ -67,14 +67,14 @@ fn candidate(bps: usize, b: usize, h: usize, i: usize) -> usize
     (5 - h) % 4
 }
 
-// The least squared distance of z from the candidates.
+// The least squared distance of z from the candidates: the last two repeat the second.
 fn alternative(bps: usize, b: usize, h: usize, z: Complex) -> f64
     requires { ⌜ (1 ≤ bps) × (bps ≤ 2) × (b < bps) × (h < 2 ^ bps) ⌝ }
     ensures { λ r. ⌜ r ≡ alternative bps (alphabet bps) b h z ⌝ }
 {
     let mut least = 1.0 / 0.0;
     let mut i: usize = 0;
-    while i < 4 {
+    while i < 2 {
         let d = dist_sqr(z, constellation::point(bps, candidate(bps, b, h, i)));
         if d < least {
             least = d;

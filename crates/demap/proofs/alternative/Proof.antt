@@ -1,7 +1,9 @@
--- `demap::alternative` meets its contract: after i turns it holds the least distance of the first i candidates. Assumes nothing.
-use Prim.Native.Nat.{ℕ, _-_, _^_, _≤_, _<_}
-use mathlib.Core.Path.{_≡_, refl, ap, _∙_}
+-- `demap::alternative` meets its contract: after i turns it holds the least distance of the first i candidates, and the
+-- last two are the second again. Assumes nothing.
+use Prim.Native.Nat.{ℕ, suc, _-_, _^_, _≤_, _<_}
+use mathlib.Core.Path.{_≡_, refl, sym, ap, _∙_}
 use mathlib.Core.Logic.{⊎-elim}
+use native.Mathlib.Nat.{eq-or-lt-of-le}
 use native.Mathlib.Omega.{arith}
 use borrow.Author.Needs.{needs}
 use lib.Ieee.{Float, ofBits, div}
@@ -12,7 +14,8 @@ use Rattle.demap.specs.Nearest.{distSqr, pointAt}
 use Rattle.demap.specs.Candidates.{candidate}
 use Rattle.demap.specs.CandidateLaws.{candidate-is}
 use Rattle.demap.specs.Soft.{leastOf, alternative}
-use Rattle.demap.specs.SoftLaws.{least-taken, least-left}
+use Rattle.demap.specs.SoftLaws.{least-taken, least-left, least-again}
+use Rattle.demap.specs.PskCandidates.{one-bit-candidate, later-candidate}
 use Rattle.demap.proofs.alternative.Statement.{statement}
 use Rattle.demap.proofs.alternative.Tie as tie
 
@@ -26,17 +29,37 @@ distance-at : (w b h i j : ℕ) (z p : Complex) (d : Float) → j ≡ candidate 
 unfolding pointOf
 distance-at w b h i j z p d c e g = g ∙ ap (λ (x : Complex). distSqr z x) e ∙ ap (λ (k : ℕ). distSqr z (pointAt (alphabet w) k)) c
 
-all-four : (w b h i : ℕ) (z : Complex) (least : Float) → i ≤ 4 → 4 ≤ i → least ≡ leastOf (distances w b h z) i → least ≡ alternative w (alphabet w) b h z
+-- the candidates behind the first are one
+repeated : (w b h i : ℕ) → 1 ≤ w → w ≤ 2 → b < w → h < 2 ^ w → candidate w (alphabet w) b h (suc (suc i)) ≡ candidate w (alphabet w) b h (suc i)
+repeated w b h i low high B H = ⊎-elim one two (eq-or-lt-of-le high)
+  where
+    two : suc w ≤ 2 → candidate w (alphabet w) b h (suc (suc i)) ≡ candidate w (alphabet w) b h (suc i)
+    two l =
+        let e : w ≡ 1 = omega arith in
+        let z : b ≡ 0 = omega arith in
+        let g : h < 2 = rw e at H in
+        rw (e, z) (sym (one-bit-candidate h (suc (suc i)) g) ∙ one-bit-candidate h (suc i) g)
+
+    one : w ≡ 2 → candidate w (alphabet w) b h (suc (suc i)) ≡ candidate w (alphabet w) b h (suc i)
+    one e =
+        let g : h < 4 = rw e at H in
+        rw e (sym (later-candidate b h (suc (suc i)) (omega arith) g (omega arith)) ∙ later-candidate b h (suc i) (omega arith) g (omega arith))
+
+all-four : (w b h i : ℕ) (z : Complex) (least : Float) → 1 ≤ w → w ≤ 2 → b < w → h < 2 ^ w → i ≤ 2 → 2 ≤ i
+    → least ≡ leastOf (distances w b h z) i → least ≡ alternative w (alphabet w) b h z
 unfolding alternative
-all-four w b h i z least l g e =
-    let four : i ≡ 4 = omega arith in
-    rw four at e
+all-four w b h i z least low high B H l g e =
+    let two : i ≡ 2 = omega arith in
+    let d = distances w b h z in
+    let again : (k : ℕ) → d (suc (suc k)) ≡ d (suc k) =
+    λ k. ap (λ (j : ℕ). distSqr z (pointAt (alphabet w) j)) (repeated w b h k low high B H) in
+    (rw two at e) ∙ sym (least-again d 2 (again 1) ∙ least-again d 1 (again 0))
 
 abbrev Inv-loop : tie.InvT-loop
-Inv-loop bps b h z least₀ i₀ least i = (i ≤ 4) × (least ≡ leastOf (distances bps b h z) i)
+Inv-loop bps b h z least₀ i₀ least i = (i ≤ 2) × (least ≡ leastOf (distances bps b h z) i)
 
 abbrev μ-loop : tie.MeasureT-loop
-μ-loop bps b h z least₀ i₀ least i = 4 - i
+μ-loop bps b h z least₀ i₀ least i = 2 - i
 
 loop-holds : tie.Need-loop-holds Inv-loop μ-loop
 unfolding leastOf div ofBits
@@ -69,8 +92,9 @@ loop-again c =
 
 returns : tie.Need-returns Inv-loop μ-loop
 returns c =
+    let p = c .before .before .pre in
     let l = c .before .loop .inv in
-    all-four _ _ _ _ _ _ (l .0) (c .loop-test .left) (l .1)
+    all-four _ _ _ _ _ _ (p .0) (p .1) (p .2) (p .3) (l .0) (c .loop-test .left) (l .1)
 
 pub alternative-spec : {M : Type 1} → statement M
 alternative-spec = tie.close (tie.spec Inv-loop μ-loop loop-holds candidate-requires point-requires dist-sqr-requires add-i loop-less loop-again returns)
