@@ -1,0 +1,1 @@
+//! A simulated channel: white noise, two-path fading after Watterson, frequency and timing offset.

@@ -1,0 +1,12 @@
+//! `dimpstea trial`.
+use crate::error::Error;
+use clap::Args;
+
+/// The words of `trial`.
+#[derive(Args, Debug)]
+pub struct Words {}
+
+/// Does what they ask for.
+pub fn run(_words: &Words) -> Result<(), Error> {
+    Ok(())
+}

@@ -1,0 +1,1 @@
+//! WAV files, read and written as streams.
