@@ -15,6 +15,7 @@ pub mod progress;
 pub mod random;
 pub mod receive;
 pub mod send;
+pub mod source;
 pub mod tables;
 pub mod threads;
 pub mod trial;
