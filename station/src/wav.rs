@@ -304,18 +304,14 @@ impl Chunks {
     }
 }
 
-/// Fills as much of `out` as there is, and answers how much; a read that Ctrl-C broke off ends it.
+/// Fills as much of `out` as there is, and answers how much; Ctrl-C ends it, also where it breaks off a waiting read.
 pub fn fill(source: &mut (impl Read + ?Sized), out: &mut [u8]) -> io::Result<usize> {
     let mut got = 0;
-    while got < out.len() {
+    while got < out.len() && !crate::interrupt::met() {
         match source.read(&mut out[got..]) {
             Ok(0) => break,
             Ok(n) => got += n,
-            Err(error) if error.kind() == io::ErrorKind::Interrupted => {
-                if crate::interrupt::met() {
-                    break;
-                }
-            }
+            Err(error) if error.kind() == io::ErrorKind::Interrupted => {}
             Err(error) => return Err(error),
         }
     }
