@@ -152,7 +152,7 @@ fn the_picture_and_the_table() {
     assert_eq!(table.lines().count(), 2 * 5 + 1, "{table}");
     assert!(table.contains("500/14 through white noise"));
     let picture = std::fs::read_to_string(Path::new(&folder.file("a/b")).join("trial.svg")).unwrap();
-    assert!(picture.contains("500/14 read exactly") && picture.contains("500/4 detected"));
+    assert!(picture.contains("500/14") && picture.contains("500/4") && picture.contains("white noise"));
 }
 
 /// Ctrl-C: the table and the file have the frames that were done.

@@ -41,17 +41,44 @@ type Drawn<'a> = Result<(), DrawingAreaErrorKind<<SVGBackend<'a> as DrawingBacke
 
 /// Frames read exactly (thick, with intervals of 95 %) and frames detected (thin) over SNR, a panel for each channel.
 pub fn rates(file: &Path, panels: &[Panel]) -> Result<(), Error> {
+    let mut names: Vec<&str> = Vec::new();
+    for curve in panels.iter().flat_map(|panel| &panel.curves) {
+        if !names.contains(&&curve.name[..]) {
+            names.push(&curve.name);
+        }
+    }
+    let count = panels.len().max(1);
+    let width = 560 * count as u32;
+    let across = (width as usize - 60) / NAME;
+    let legend = LINE * (1 + (names.len() + across - 1) / across) as i32 + 12;
     write(file, |svg| {
-        let root = SVGBackend::with_string(svg, (560 * panels.len().max(1) as u32, 420)).into_drawing_area();
+        let root = SVGBackend::with_string(svg, (width, 400 + legend as u32)).into_drawing_area();
         root.fill(&WHITE)?;
-        for (panel, area) in panels.iter().zip(root.split_evenly((1, panels.len().max(1)))) {
-            draw(&area, panel)?;
+        let (top, below) = root.split_vertically(legend);
+        draw_legend(&top, &names, across)?;
+        for (panel, area) in panels.iter().zip(below.split_evenly((1, count))) {
+            draw(&area, panel, &names)?;
         }
         root.present()
     })
 }
 
-fn draw<'a>(area: &Area<'a>, panel: &Panel) -> Drawn<'a> {
+/// A name's place in the legend, in dots.
+const NAME: usize = 100;
+const LINE: i32 = 22;
+
+fn draw_legend<'a>(area: &Area<'a>, names: &[&str], across: usize) -> Drawn<'a> {
+    let words = "read exactly: thick, with intervals of 95 %; detected: thin";
+    area.draw(&Text::new(words, (60, 10), ("sans-serif", 15)))?;
+    for (number, name) in names.iter().enumerate() {
+        let (x, y) = (60 + (number % across * NAME) as i32, 10 + LINE * (1 + (number / across) as i32));
+        area.draw(&PathElement::new([(x, y + 6), (x + 24, y + 6)], colour(number).stroke_width(3)))?;
+        area.draw(&Text::new(*name, (x + 30, y), ("sans-serif", 15)))?;
+    }
+    Ok(())
+}
+
+fn draw<'a>(area: &Area<'a>, panel: &Panel, names: &[&str]) -> Drawn<'a> {
     let snrs = panel.curves.iter().flat_map(|curve| curve.rates.iter().map(|rate| rate.snr_db));
     let mut chart = ChartBuilder::on(area)
         .caption(&panel.title, ("sans-serif", 18))
@@ -69,10 +96,11 @@ fn draw<'a>(area: &Area<'a>, panel: &Panel) -> Drawn<'a> {
         .y_label_formatter(&|percent| format!("{percent:.0}"))
         .x_label_formatter(&|snr| format!("{snr:.0}"))
         .draw()?;
-    for (number, curve) in panel.curves.iter().enumerate() {
+    for curve in &panel.curves {
+        let number = names.iter().position(|name| *name == curve.name).unwrap_or(0);
         draw_curve(&mut chart, curve, colour(number))?;
     }
-    chart.configure_series_labels().position(SeriesLabelPosition::LowerRight).background_style(WHITE.mix(0.8)).draw()
+    Ok(())
 }
 
 fn draw_curve<'a>(chart: &mut Chart<'_, 'a>, curve: &Curve, colour: RGBColor) -> Drawn<'a> {
@@ -81,19 +109,13 @@ fn draw_curve<'a>(chart: &mut Chart<'_, 'a>, curve: &Curve, colour: RGBColor) ->
     let detected = curve.rates.iter().map(|rate| (rate.snr_db, percent(rate.detected, rate.sent)));
     let (thick, thin) = (colour.stroke_width(2), colour.mix(0.55).stroke_width(1));
     chart.draw_series(LineSeries::new(detected.clone(), thin))?;
-    chart
-        .draw_series(detected.map(|at| TriangleMarker::new(at, 4, thin)))?
-        .label(format!("{} detected", curve.name))
-        .legend(move |(x, y)| PathElement::new([(x, y), (x + 18, y)], thin));
+    chart.draw_series(detected.map(|at| TriangleMarker::new(at, 4, thin)))?;
     chart.draw_series(curve.rates.iter().map(|rate| {
         let (low, high) = interval(rate.exact, rate.sent);
         PathElement::new([(rate.snr_db, 100.0 * low), (rate.snr_db, 100.0 * high)], thin)
     }))?;
     chart.draw_series(LineSeries::new(exact.clone(), thick))?;
-    chart
-        .draw_series(exact.map(|at| Circle::new(at, 3, colour.filled())))?
-        .label(format!("{} read exactly", curve.name))
-        .legend(move |(x, y)| PathElement::new([(x, y), (x + 18, y)], thick));
+    chart.draw_series(exact.map(|at| Circle::new(at, 3, colour.filled())))?;
     Ok(())
 }
 
@@ -133,8 +155,14 @@ mod tests {
             rates(&file, &panels).unwrap();
             let svg = std::fs::read_to_string(&file).unwrap();
             assert!(svg.starts_with("<svg") && svg.trim_end().ends_with("</svg>"));
-            assert_eq!(svg.matches("2300/7 read exactly").count(), panels.len());
-            assert_eq!(svg.matches("500/4 detected").count(), panels.len());
+            for panel in &panels {
+                assert!(svg.contains(&panel.title), "{}", panel.title);
+            }
+            for name in ["500/4", "2300/7"] {
+                assert_eq!(svg.matches(name).count(), usize::from(!panels.is_empty()), "{name}");
+            }
+            // A dot for each rate.
+            assert_eq!(svg.matches("<circle").count(), 4 * panels.len());
         }
         std::fs::remove_file(file).unwrap();
     }
