@@ -1,8 +1,9 @@
 //! `dimpstea send`: a payload to audio.
-use crate::wav::{Depth, Writer};
+use crate::wav::{self, Depth, Writer};
 use crate::{cli, error::Error, interrupt, output, progress::Progress, random::Random, tables};
 use clap::Args;
 use dimpstea::{Layout, Sending, Tables};
+use std::fs;
 use std::io::{self, Read};
 use std::path::{Path, PathBuf};
 
@@ -66,7 +67,7 @@ pub fn run(words: &Words) -> Result<(), Error> {
     let depth = if words.float { Depth::Float32 } else { Depth::Pcm16 };
     let (most, gap) = (usize::from(words.frames), (words.gap * 48_000.0).round() as u64);
     let samples: u64 = sizes(frames, most).map(|frames| layout.audio_len(frames) + gap).sum();
-    if samples * depth.bytes() as u64 > crate::wav::MOST_BYTES {
+    if samples * depth.bytes() as u64 > wav::MOST_BYTES {
         return Err(Error::Words(format!("{frames} frames don't fit into a WAV file of 4 GB; send them in parts")));
     }
     let mut writer = Writer::create(&words.output, 48_000, depth, samples)?;
@@ -120,11 +121,11 @@ pub fn audio(
 
 /// The payload bits of a file, a byte each.
 fn payload(path: &Path, packed: bool) -> Result<Vec<u8>, Error> {
-    let mut bytes = Vec::new();
     let stdin = path == Path::new("-");
     let name = if stdin { Path::new("standard input") } else { path };
-    let read = if stdin { io::stdin().lock().read_to_end(&mut bytes).map(|_| ()) } else { load(path, &mut bytes) };
-    read.map_err(|error| Error::io(name, "reading", &error))?;
+    let bytes = if stdin { all(&mut io::stdin()) } else { fs::read(path) };
+    let bytes = bytes.map_err(|error| Error::io(name, "reading", &error))?;
+    interrupt::check()?;
     let text = !packed && bytes.iter().all(|b| matches!(b, b'0' | b'1') || b.is_ascii_whitespace());
     let bits: Vec<u8> = if text {
         bytes.iter().filter(|b| !b.is_ascii_whitespace()).map(|b| b - b'0').collect()
@@ -137,9 +138,16 @@ fn payload(path: &Path, packed: bool) -> Result<Vec<u8>, Error> {
     Ok(bits)
 }
 
-fn load(path: &Path, bytes: &mut Vec<u8>) -> io::Result<()> {
-    *bytes = std::fs::read(path)?;
-    Ok(())
+/// Everything that a stream has, or had when Ctrl-C was met.
+fn all(stream: &mut impl Read) -> io::Result<Vec<u8>> {
+    let (mut bytes, mut part) = (Vec::new(), [0; 4096]);
+    loop {
+        let got = wav::fill(stream, &mut part)?;
+        bytes.extend(&part[..got]);
+        if got < part.len() {
+            return Ok(bytes);
+        }
+    }
 }
 
 fn report(words: &Words, frames: usize, filled: usize, samples: u64) -> Result<(), Error> {

@@ -18,8 +18,18 @@ pub struct Source {
 }
 
 enum Kind {
-    Audio { reader: Reader, channel: usize, front: Box<FrontEnd>, ready: Vec<Complex>, ended: bool },
+    Audio(Box<Audio>),
     Raw(Box<dyn Read + Send>),
+}
+
+/// A WAV file, and the front end that it goes through.
+struct Audio {
+    reader: Reader,
+    channel: usize,
+    front: FrontEnd,
+    /// Samples that are made and not yet taken.
+    ready: Vec<Complex>,
+    ended: bool,
 }
 
 impl Source {
@@ -44,7 +54,7 @@ impl Source {
     /// Samples at 3 kHz that are still to come, about, if the recording says so.
     pub fn left(&self) -> Option<u64> {
         match &self.kind {
-            Kind::Audio { reader, .. } => Some(reader.left()? * 3000 / u64::from(reader.format().rate).max(1)),
+            Kind::Audio(a) => Some(a.reader.left()?.saturating_mul(3000) / u64::from(a.reader.format().rate)),
             Kind::Raw(_) => None,
         }
     }
@@ -63,19 +73,12 @@ impl Source {
     pub fn next(&mut self, piece: &mut Vec<Complex>) -> Result<bool, Error> {
         piece.clear();
         match &mut self.kind {
-            Kind::Audio { reader, channel, front, ready, ended } => {
-                while ready.is_empty() && !*ended {
-                    let mut audio = Vec::new();
-                    let block = PIECE * reader.format().rate as usize / 3000;
-                    if reader.read(*channel, block, &mut audio)? > 0 {
-                        front.take(&audio, ready);
-                    } else {
-                        front.end(ready);
-                        self.cut = reader.cut();
-                        *ended = true;
-                    }
+            Kind::Audio(audio) => {
+                while audio.ready.is_empty() && !audio.ended {
+                    audio.make_ready()?;
+                    self.cut = self.cut.take().or_else(|| audio.reader.cut());
                 }
-                piece.extend(ready.drain(..ready.len().min(PIECE)));
+                piece.extend(audio.ready.drain(..audio.ready.len().min(PIECE)));
             }
             Kind::Raw(source) => {
                 let mut bytes = vec![0; 8 * PIECE];
@@ -90,6 +93,20 @@ impl Source {
         }
         self.made += piece.len() as u64;
         Ok(!piece.is_empty())
+    }
+}
+
+impl Audio {
+    /// Reads half a second, or comes to the end.
+    fn make_ready(&mut self) -> Result<(), Error> {
+        let (mut audio, block) = (Vec::new(), PIECE * self.reader.format().rate as usize / 3000);
+        if self.reader.read(self.channel, block, &mut audio)? > 0 {
+            self.front.take(&audio, &mut self.ready);
+        } else {
+            self.front.end(&mut self.ready);
+            self.ended = true;
+        }
+        Ok(())
     }
 }
 
@@ -110,8 +127,8 @@ fn audio(reader: Reader, channel: usize, name: &Path) -> Result<Kind, Error> {
         let fault = format!("it has {} channels, and channel {} was asked for", format.channels, channel + 1);
         return Err(Error::file(name, "", fault, "give --channel from 1 on"));
     }
-    let front = Box::new(FrontEnd::new(format.rate, name)?);
-    Ok(Kind::Audio { reader, channel, front, ready: Vec::new(), ended: false })
+    let front = FrontEnd::new(format.rate, name)?;
+    Ok(Kind::Audio(Box::new(Audio { reader, channel, front, ready: Vec::new(), ended: false })))
 }
 
 /// A complex number of two 32-bit floats.

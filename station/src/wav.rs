@@ -191,7 +191,9 @@ impl Reader {
     /// Appends up to `most` samples of a channel, counted from 0: fewer at the end, none after it.
     pub fn read(&mut self, channel: usize, most: usize, out: &mut Vec<f64>) -> Result<usize, Error> {
         let (block, depth) = (self.format.block(), self.format.depth);
-        let wanted = self.left.map_or(most * block, |left| left.min((most * block) as u64) as usize);
+        // A file of very many channels is read in smaller parts.
+        let most = most.min((1 << 20) / block + 1) * block;
+        let wanted = self.left.map_or(most, |left| left.min(most as u64) as usize);
         let mut bytes = vec![0; wanted];
         let got = fill(&mut *self.source, &mut bytes).map_err(|error| Error::io(&self.name, "reading", &error))?;
         self.at += got as u64;

@@ -231,7 +231,7 @@ fn damaged_files_never_panic() {
         damage(&mut bytes, &mut random);
         fs::write(&path, &bytes).unwrap();
         let outcome = Source::open(&path, case % 50 == 0, random.below(2)).and_then(|mut source| {
-            let mut piece = Vec::new();
+            let (mut piece, _) = (Vec::new(), source.left());
             while source.next(&mut piece)? {}
             Ok(source)
         });
