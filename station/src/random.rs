@@ -17,13 +17,13 @@ impl Random {
     pub fn of(seed: u64, piece: &[u64]) -> Self {
         let mut random = Self(seed);
         for &number in piece {
-            random = Self(random.next() ^ number.wrapping_mul(0xd6e8_feb8_6659_fd93));
+            random = Self(random.draw() ^ number.wrapping_mul(0xd6e8_feb8_6659_fd93));
         }
-        Self(random.next())
+        Self(random.draw())
     }
 
     /// The next 64 bits.
-    pub fn next(&mut self) -> u64 {
+    pub fn draw(&mut self) -> u64 {
         self.0 = self.0.wrapping_add(0x9e37_79b9_7f4a_7c15);
         let z = (self.0 ^ (self.0 >> 30)).wrapping_mul(0xbf58_476d_1ce4_e5b9);
         let z = (z ^ (z >> 27)).wrapping_mul(0x94d0_49bb_1331_11eb);
@@ -32,12 +32,12 @@ impl Random {
 
     /// A number below a bound that isn't 0.
     pub fn below(&mut self, bound: usize) -> usize {
-        (self.next() % bound as u64) as usize
+        (self.draw() % bound as u64) as usize
     }
 
     /// A number from 0 up to, not including, 1.
     pub fn unit(&mut self) -> f64 {
-        (self.next() >> 11) as f64 / (1u64 << 53) as f64
+        (self.draw() >> 11) as f64 / (1u64 << 53) as f64
     }
 
     /// A number of the standard normal distribution.
@@ -67,7 +67,7 @@ mod tests {
     fn published_numbers() {
         let mut random = Random::new(1_234_567);
         let first = [6_457_827_717_110_365_317, 3_203_168_211_198_807_973, 9_817_491_932_198_370_423];
-        assert_eq!([random.next(), random.next(), random.next()], first);
+        assert_eq!([random.draw(), random.draw(), random.draw()], first);
     }
 
     #[test]
@@ -75,15 +75,15 @@ mod tests {
         let mut first: Vec<u64> = Vec::new();
         for seed in 0..10 {
             for piece in 0..100 {
-                first.extend((0..5).map(|part| Random::of(seed, &[piece, part]).next()));
+                first.extend((0..5).map(|part| Random::of(seed, &[piece, part]).draw()));
             }
         }
         let count = first.len();
         first.sort_unstable();
         first.dedup();
         assert_eq!(first.len(), count);
-        assert_eq!(Random::of(3, &[1, 4]).next(), Random::of(3, &[1, 4]).next());
-        assert_ne!(Random::of(3, &[1, 4]).next(), Random::of(3, &[4, 1]).next());
+        assert_eq!(Random::of(3, &[1, 4]).draw(), Random::of(3, &[1, 4]).draw());
+        assert_ne!(Random::of(3, &[1, 4]).draw(), Random::of(3, &[4, 1]).draw());
     }
 
     /// Mean, power and tails of 400,000 normal deviates, each within five standard errors.

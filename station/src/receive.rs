@@ -3,7 +3,7 @@ use crate::source::{Source, PIECE};
 use crate::{cli, error::Error, interrupt, output, plot::Pictures, progress::Progress, tables, threads};
 use clap::Args;
 use dimpstea::{rows, Complex, Detection, Layout, Located, ReadRefusal, Reading, Receiver, Refusal, Tables};
-use rayon::prelude::*;
+use rayon::{prelude::*, ThreadPool};
 use std::fs::{self, File};
 use std::io::Write;
 use std::path::{Path, PathBuf};
@@ -98,7 +98,7 @@ pub fn run(words: &Words) -> Result<(), Error> {
     }
     let mut show = Show::new(words)?;
     let mut desks = desks(words)?;
-    let received = threads::pool(words.threads)?.install(|| receive(&mut source, &mut desks, &mut show));
+    let received = receive(&mut source, &mut desks, &mut show, &threads::pool(words.threads)?);
     for desk in desks {
         if let Some(pictures) = desk.pictures {
             pictures.finish()?;
@@ -138,8 +138,9 @@ fn desks(words: &Words) -> Result<Vec<Desk>, Error> {
     chosen.into_iter().map(|(layout, tables)| Desk::new(layout, tables, words.plot.as_deref())).collect()
 }
 
-/// Feeds the recording to every desk, piece by piece, and shows what they find.
-fn receive(source: &mut Source, desks: &mut [Desk], show: &mut Show) -> Result<(), Error> {
+/// Feeds the recording to every desk, piece by piece, and shows what they find. This thread reads, for it is the one
+/// whose waiting Ctrl-C breaks off; the pool's threads feed.
+fn receive(source: &mut Source, desks: &mut [Desk], show: &mut Show, pool: &ThreadPool) -> Result<(), Error> {
     let (book, progress) = (rows::turn_book(), Progress::new("receiving", source.left()));
     let mut piece = Vec::with_capacity(PIECE);
     loop {
@@ -148,7 +149,7 @@ fn receive(source: &mut Source, desks: &mut [Desk], show: &mut Show) -> Result<(
             return Err(Error::Interrupted);
         }
         let feed = |desk: &mut Desk| if more { desk.feed(&book, &piece) } else { desk.end(&book) };
-        let found: Vec<_> = desks.par_iter_mut().map(feed).collect();
+        let found: Vec<_> = pool.install(|| desks.par_iter_mut().map(feed).collect());
         for (desk, found) in desks.iter().zip(found) {
             if let Some(found) = found.map_err(|refusal| refused(refusal, source))? {
                 progress.aside(|| show.found(&desk.layout, &found))?;

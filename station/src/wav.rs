@@ -162,15 +162,8 @@ impl Reader {
     }
 
     fn new(mut source: Box<dyn Source>, name: &Path) -> Result<Self, Error> {
-        let chunks = Chunks::find(&mut *source, name)?;
-        Ok(Self {
-            source,
-            name: name.into(),
-            format: chunks.format,
-            at: chunks.data_at,
-            left: chunks.data_len,
-            cut: None,
-        })
+        let (format, at, left) = Chunks::find(&mut *source, name)?;
+        Ok(Self { source, name: name.into(), format, at, left, cut: None })
     }
 
     /// The format.
@@ -220,89 +213,109 @@ impl Reader {
     }
 }
 
-/// Where the samples are, and what they are.
-struct Chunks {
-    format: Format,
-    data_at: u64,
-    data_len: Option<u64>,
+/// Goes through the chunks, from the first byte on.
+struct Chunks<'a> {
+    source: &'a mut dyn Source,
+    name: &'a Path,
+    at: u64,
+    format: Option<Format>,
+    /// The data chunk's first byte and its length.
+    data: Option<(u64, u64)>,
+    /// The data chunk's length of a file above 4 GB.
+    long: Option<u64>,
 }
 
-impl Chunks {
-    /// Goes through the chunks, and leaves the source at the first sample.
-    fn find(source: &mut dyn Source, name: &Path) -> Result<Self, Error> {
-        let broken = |at: u64, fault: String| Error::file(name, format!("byte {at}"), fault, CONVERT);
-        let io = |error: io::Error| Error::io(name, "reading", &error);
-        let mut head = [0; 12];
-        let got = fill(source, &mut head).map_err(io)?;
-        if got == 0 {
-            return Err(Error::file(name, "", "it is empty", "record or send it again"));
-        }
-        let wave = got == 12 && (&head[..4] == b"RIFF" || &head[..4] == b"RF64") && &head[8..] == b"WAVE";
-        if !wave {
-            let remedy = "give a WAV file, or --raw for complex samples at 3 kHz";
-            return Err(Error::file(name, "byte 0", "it isn't a WAV file", remedy));
-        }
-        let (mut at, mut format, mut data, mut long) = (12, None, None, None);
+impl<'a> Chunks<'a> {
+    /// Finds the format and the samples, and leaves the source at the first of them: their format, first byte and
+    /// length, if that is known.
+    fn find(source: &'a mut dyn Source, name: &'a Path) -> Result<(Format, u64, Option<u64>), Error> {
+        let mut chunks = Self { source, name, at: 0, format: None, data: None, long: None };
+        chunks.head()?;
         loop {
-            let mut head = [0; 8];
-            let got = fill(source, &mut head).map_err(io)?;
-            if got < 8 {
-                let missing = if data.is_none() { "\"data\"" } else { "\"fmt \"" };
-                return Err(broken(at, format!("it ends before its chunk {missing}")));
-            }
-            at += 8;
-            let len = u64::from(u32::from_le_bytes([head[4], head[5], head[6], head[7]]));
-            match &head[..4] {
-                b"fmt " => {
-                    let mut bytes = vec![0; len.min(64) as usize];
-                    if fill(source, &mut bytes).map_err(io)? < bytes.len() {
-                        return Err(broken(at, "it ends within its chunk \"fmt \"".into()));
-                    }
-                    format = Some(Format::of(&bytes).map_err(|fault| broken(at, fault))?);
-                    source.skip(len - bytes.len() as u64 + len % 2).map_err(io)?;
-                }
-                b"ds64" if len >= 16 && len < 1 << 16 => {
-                    let mut bytes = vec![0; 16];
-                    if fill(source, &mut bytes).map_err(io)? < 16 {
-                        return Err(broken(at, "it ends within its chunk \"ds64\"".into()));
-                    }
-                    let mut eight = [0; 8];
-                    eight.copy_from_slice(&bytes[8..]);
-                    long = Some(u64::from_le_bytes(eight));
-                    source.skip(len - 16 + len % 2).map_err(io)?;
-                }
-                b"data" => {
-                    let len = long.filter(|_| len == u64::from(u32::MAX)).unwrap_or(len);
-                    data = Some((at, len));
-                    if format.is_none() {
-                        source.skip(len.saturating_add(len % 2)).map_err(io)?;
-                    }
-                }
-                _ => source.skip(len + len % 2).map_err(io)?,
-            }
-            at = at.saturating_add(len).saturating_add(len % 2);
-            if let (Some(format), Some((data_at, len))) = (format, data) {
-                return Self::settled(source, name, format, data_at, len, at);
+            let end = chunks.next()?;
+            if let (Some(format), Some((data_at, len))) = (chunks.format, chunks.data) {
+                chunks.go_to(data_at, end)?;
+                let unknown = chunks.source.is_stream() && (len == 0 || len >= (1 << 31) - 4096);
+                return Ok((format, data_at, (!unknown).then_some(len)));
             }
         }
     }
 
-    /// Goes to the samples, where they come before `fmt `, and judges the length that they are said to have.
-    fn settled(
-        source: &mut dyn Source,
-        name: &Path,
-        format: Format,
-        data_at: u64,
-        len: u64,
-        at: u64,
-    ) -> Result<Self, Error> {
-        let before = at > data_at.saturating_add(len).saturating_add(len % 2);
-        if before && !source.go_back(data_at).map_err(|error| Error::io(name, "reading", &error))? {
-            let fault = "the chunk \"data\" comes before \"fmt \", which a stream can't be read with";
-            return Err(Error::file(name, format!("byte {data_at}"), fault, "save it to a file first"));
+    fn broken(&self, fault: impl Into<String>) -> Error {
+        Error::file(self.name, format!("byte {}", self.at), fault, CONVERT)
+    }
+
+    /// So many bytes, or as many as there are.
+    fn bytes(&mut self, count: u64) -> Result<Vec<u8>, Error> {
+        let mut bytes = vec![0; count as usize];
+        let got = fill(self.source, &mut bytes).map_err(|error| Error::io(self.name, "reading", &error))?;
+        bytes.truncate(got);
+        Ok(bytes)
+    }
+
+    fn skip(&mut self, count: u64) -> Result<(), Error> {
+        self.source.skip(count).map_err(|error| Error::io(self.name, "reading", &error))
+    }
+
+    /// The file's first twelve bytes.
+    fn head(&mut self) -> Result<(), Error> {
+        let head = self.bytes(12)?;
+        if head.is_empty() {
+            return Err(Error::file(self.name, "", "it is empty", "record or send it again"));
         }
-        let unknown = source.is_stream() && (len == 0 || len >= (1 << 31) - 4096);
-        Ok(Self { format, data_at, data_len: (!unknown).then_some(len) })
+        if head.len() < 12 || !matches!(&head[..4], b"RIFF" | b"RF64") || &head[8..] != b"WAVE" {
+            let remedy = "give a WAV file, or --raw for complex samples at 3 kHz";
+            return Err(Error::file(self.name, "byte 0", "it isn't a WAV file", remedy));
+        }
+        self.at = 12;
+        Ok(())
+    }
+
+    /// Takes the next chunk, and answers where it ends. The first data chunk after `fmt ` isn't gone into.
+    fn next(&mut self) -> Result<u64, Error> {
+        let head = self.bytes(8)?;
+        if head.len() < 8 {
+            let missing = if self.data.is_none() { "\"data\"" } else { "\"fmt \"" };
+            return Err(self.broken(format!("it ends before its chunk {missing}")));
+        }
+        self.at += 8;
+        let mut len = u64::from(u32::from_le_bytes([head[4], head[5], head[6], head[7]]));
+        let mut used = 0;
+        match &head[..4] {
+            b"fmt " => {
+                let bytes = self.bytes(len.min(64))?;
+                self.format = Some(Format::of(&bytes).map_err(|fault| self.broken(fault))?);
+                used = len.min(64);
+            }
+            b"ds64" => {
+                let bytes = self.bytes(len.min(16))?;
+                self.long = bytes.get(8..16).and_then(|b| b.try_into().ok()).map(u64::from_le_bytes);
+                used = len.min(16);
+            }
+            b"data" => {
+                len = self.long.filter(|_| len == u64::from(u32::MAX)).unwrap_or(len);
+                self.data = Some((self.at, len));
+            }
+            _ => {}
+        }
+        let padded = len.saturating_add(len % 2);
+        if !(&head[..4] == b"data" && self.format.is_some()) {
+            self.skip(padded - used)?;
+        }
+        self.at = self.at.saturating_add(padded);
+        Ok(self.at)
+    }
+
+    /// Goes back to the samples, if they came before `fmt `, which ends at `end`.
+    fn go_to(&mut self, data_at: u64, end: u64) -> Result<(), Error> {
+        let (_, len) = self.data.unwrap_or_default();
+        let before = end > data_at.saturating_add(len).saturating_add(len % 2);
+        let went = !before || self.source.go_back(data_at).map_err(|e| Error::io(self.name, "reading", &e))?;
+        if went {
+            return Ok(());
+        }
+        let fault = "the chunk \"data\" comes before \"fmt \", which a stream can't be read with";
+        Err(Error::file(self.name, format!("byte {data_at}"), fault, "save it to a file first"))
     }
 }
 

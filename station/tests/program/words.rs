@@ -130,30 +130,33 @@ fn interrupt(pid: u32) {
     assert!(Command::new("kill").args(["-INT", &pid.to_string()]).status().unwrap().success());
 }
 
-/// Ctrl-C while standard input is silent: the frames found so far stay, and the status is 130.
+/// Ctrl-C while a piece is fed, and while standard input is silent: the frames found so far stay, and the status is 130.
 #[test]
 fn ctrl_c_leaves_what_is_done() {
     let folder = folder("interrupt");
     fs::write(folder.join("p.txt"), payload(748, 2)).unwrap();
     let sent = typed(&folder, "send -l 500/4 p.txt -o - --gap 3");
-    let mut child = program()
-        .current_dir(&folder)
-        .args("receive - -l 500/4 -o read.txt".split(' '))
-        .stdin(Stdio::piped())
-        .stdout(Stdio::piped())
-        .stderr(Stdio::piped())
-        .spawn()
-        .unwrap();
-    let mut stdin = child.stdin.take().unwrap();
-    stdin.write_all(&sent.stdout[..sent.stdout.len() - 9600]).unwrap();
-    let mut lines = BufReader::new(child.stdout.take().unwrap()).lines();
-    assert!(lines.next().unwrap().unwrap().contains("position"));
-    interrupt(child.id());
-    let output = child.wait_with_output().unwrap();
-    drop(stdin);
-    assert_eq!(output.status.code(), Some(130));
-    assert_eq!(err(&output), "dimpstea: interrupted; what was done by then is left\n");
-    assert_eq!(fs::read_to_string(folder.join("read.txt")).unwrap().trim_end(), payload(748, 2));
+    for wait in [0, 400] {
+        let mut child = program()
+            .current_dir(&folder)
+            .args("receive - -l 500/4 -o read.txt".split(' '))
+            .stdin(Stdio::piped())
+            .stdout(Stdio::piped())
+            .stderr(Stdio::piped())
+            .spawn()
+            .unwrap();
+        let mut stdin = child.stdin.take().unwrap();
+        stdin.write_all(&sent.stdout[..sent.stdout.len() - 9600]).unwrap();
+        let mut lines = BufReader::new(child.stdout.take().unwrap()).lines();
+        assert!(lines.next().unwrap().unwrap().contains("position"));
+        std::thread::sleep(std::time::Duration::from_millis(wait));
+        interrupt(child.id());
+        let output = child.wait_with_output().unwrap();
+        drop(stdin);
+        assert_eq!(output.status.code(), Some(130));
+        assert_eq!(err(&output), "dimpstea: interrupted; what was done by then is left\n");
+        assert_eq!(fs::read_to_string(folder.join("read.txt")).unwrap().trim_end(), payload(748, 2));
+    }
 }
 
 /// Ctrl-C while sending: the file is a whole WAV file of what was sent by then.
