@@ -1,0 +1,4 @@
+//! The program `dimpstea`. See [`station`].
+fn main() -> std::process::ExitCode {
+    station::main()
+}
