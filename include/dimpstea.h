@@ -2,13 +2,17 @@
  * The open calls of the PSK modem, for C. Link with libmodem_c.a (`rt staticlib modem_c`).
  *
  * Every call answers 0, or the number of the first condition met in document 01, "Where each fault is
- * met" (the list is below). After a refusal nothing lent has changed, save the scratch after 24. No call keeps a
+ * met" (their words are below). After a refusal nothing lent has changed, save the scratch after 24. No call keeps a
  * pointer, allocates or writes past a length.
  *
  * A slice is a pointer and a count of elements. A pointer is never null, not even with a count of 0.
  * Nothing lent for writing overlaps anything else that is lent.
  * A complex number is two doubles, the real part first. Every length below counts elements of the pointer's
  * own type, so that a complex number counts as 2.
+ *
+ * Numbers are IEEE 754 binary64 and binary32, rounded to nearest: a thread that has set another rounding mode, or that
+ * flushes subnormal numbers to zero, gets other bits. Calls share nothing but what they are lent: any number of them
+ * may run at once, as long as no two are lent the same state, memory or buffer for writing.
  *
  * The stack that a call needs, accepted or refused, in bytes:
  *    280,000  read                         2,000  modulate, nco_phase, open
@@ -29,32 +33,94 @@ extern "C" {
 #endif
 
 /*
- * The conditions. Each call below names its own, and meets them in this order.
- *    1 bandwidth not 500, 2300, 2750, or record not 1 to 17
- *    2 record isn't PSK there
- *    3 marker table length
- *    4 marker value outside 5 to spf - 4, or twice on a carrier
- *    5 a flag not 1 where a value sets it or not 0 elsewhere (value v sets its carrier's flag v - 2)
- *    6 phasor count not nc x nsym
- *    7 phasor part not finite, or squared size outside 0.99 to 1.01
- *    8 frames not 1 to 4
- *    9 payload length, or a byte above 1
- *   10 count of draws, or one not below the alphabet size
- *   11 an out, scratch or result buffer of wrong length
- *   12 symbol row length, part not finite or above 256 in size
- *   13 window above 4,096 or past the end
- *   14 wave row length or part outside -1 to 1; phase outside 0 to f32 TAU
- *   15 start outside 0 to 2^40
- *   16 turn book length, or part outside -1 to 1
- *   17 memory length, or a state that isn't a receiver's of this layout
- *   18 above 4,000 samples, or half a sample
- *   19 first sample's number not the sample end, or end past 2^48
- *   20 sample part not finite or above 2^20 in size
- *   21 hold, dead, offered or held position outside 0 to 2^48, or a metric not finite
- *   22 the frame isn't in hand
- *   23 drift row length or part outside -1 to 1
- *   24 gain not finite and above 0
+ * What a call answers: 0, or the number of the first condition met. Each call below names its own, and meets them in
+ * this order.
  */
+enum dimpstea_refusal {
+    DIMPSTEA_ACCEPTED = 0,
+    DIMPSTEA_LEVEL = 1,
+    DIMPSTEA_NOT_PSK = 2,
+    DIMPSTEA_MARKER_LENGTH = 3,
+    DIMPSTEA_MARKER_VALUE = 4,
+    DIMPSTEA_MARKER_FLAG = 5,
+    DIMPSTEA_PHASOR_COUNT = 6,
+    DIMPSTEA_PHASOR_SIZE = 7,
+    DIMPSTEA_FRAMES = 8,
+    DIMPSTEA_PAYLOAD = 9,
+    DIMPSTEA_DRAWS = 10,
+    DIMPSTEA_BUFFER_LENGTH = 11,
+    DIMPSTEA_SYMBOLS = 12,
+    DIMPSTEA_WINDOW = 13,
+    DIMPSTEA_WAVES = 14,
+    DIMPSTEA_START = 15,
+    DIMPSTEA_TURN_BOOK = 16,
+    DIMPSTEA_STATE = 17,
+    DIMPSTEA_SAMPLE_COUNT = 18,
+    DIMPSTEA_SAMPLE_NUMBER = 19,
+    DIMPSTEA_SAMPLE_SIZE = 20,
+    DIMPSTEA_OFFER = 21,
+    DIMPSTEA_NOT_IN_HAND = 22,
+    DIMPSTEA_DRIFT_ROWS = 23,
+    DIMPSTEA_GAIN = 24,
+};
+
+/* The words of a condition. */
+static inline const char *dimpstea_refusal_words(uint32_t number) {
+    switch (number) {
+    case DIMPSTEA_ACCEPTED:
+        return "accepted";
+    case DIMPSTEA_LEVEL:
+        return "bandwidth not 500, 2300, 2750, or record not 1 to 17";
+    case DIMPSTEA_NOT_PSK:
+        return "record isn't PSK there";
+    case DIMPSTEA_MARKER_LENGTH:
+        return "marker table length";
+    case DIMPSTEA_MARKER_VALUE:
+        return "marker value outside 5 to spf - 4, or twice on a carrier";
+    case DIMPSTEA_MARKER_FLAG:
+        return "a flag not 1 where a value sets it or not 0 elsewhere (value v sets its carrier's flag v - 2)";
+    case DIMPSTEA_PHASOR_COUNT:
+        return "phasor count not nc x nsym";
+    case DIMPSTEA_PHASOR_SIZE:
+        return "phasor part not finite, or squared size outside 0.99 to 1.01";
+    case DIMPSTEA_FRAMES:
+        return "frames not 1 to 4";
+    case DIMPSTEA_PAYLOAD:
+        return "payload length, or a byte above 1";
+    case DIMPSTEA_DRAWS:
+        return "count of draws, or one not below the alphabet size";
+    case DIMPSTEA_BUFFER_LENGTH:
+        return "an out, scratch or result buffer of wrong length";
+    case DIMPSTEA_SYMBOLS:
+        return "symbol row length, part not finite or above 256 in size";
+    case DIMPSTEA_WINDOW:
+        return "window above 4,096 or past the end";
+    case DIMPSTEA_WAVES:
+        return "wave row length or part outside -1 to 1; phase outside 0 to f32 TAU";
+    case DIMPSTEA_START:
+        return "start outside 0 to 2^40";
+    case DIMPSTEA_TURN_BOOK:
+        return "turn book length, or part outside -1 to 1";
+    case DIMPSTEA_STATE:
+        return "memory length, or a state that isn't a receiver's of this layout";
+    case DIMPSTEA_SAMPLE_COUNT:
+        return "above 4,000 samples, or half a sample";
+    case DIMPSTEA_SAMPLE_NUMBER:
+        return "first sample's number not the sample end, or end past 2^48";
+    case DIMPSTEA_SAMPLE_SIZE:
+        return "sample part not finite or above 2^20 in size";
+    case DIMPSTEA_OFFER:
+        return "hold, dead, offered or held position outside 0 to 2^48, or a metric not finite";
+    case DIMPSTEA_NOT_IN_HAND:
+        return "the frame isn't in hand";
+    case DIMPSTEA_DRIFT_ROWS:
+        return "drift row length or part outside -1 to 1";
+    case DIMPSTEA_GAIN:
+        return "gain not finite and above 0";
+    default:
+        return "no condition has this number";
+    }
+}
 
 /*
  * The numbers of a layout, in this order: carriers, symbols of a frame (spf), markers of a carrier, bits of
@@ -95,11 +161,19 @@ extern "C" {
  */
 #define DIMPSTEA_READING 6
 
-/* Conditions 1 2 11. */
+/* Conditions 1 2 11. Writes the numbers; numbers_len is DIMPSTEA_LAYOUT. */
 uint32_t dimpstea_layout(uint32_t bandwidth, uint32_t record,
                          uint64_t *numbers, size_t numbers_len);
 
-/* Conditions 1 to 11. Writes the rows, nc x (9 + frames x nsym) complex numbers, carrier after carrier. */
+/*
+ * Conditions 1 to 11. Writes the rows of 1 to 4 frames: for each carrier 8 leads, nsym symbols a frame and one zero.
+ *   markers_len  nc x (markers of a carrier + spf - 1): the values, then the flags, carrier after carrier
+ *   phasors_len  2 x nc x nsym
+ *   payload_len  frames x n, a bit a byte
+ *   draws_len    nc x (frames + 8): frame by frame each carrier's reference point, then lead by lead each carrier's;
+ *                each below 2 (one bit a cell) or 4 (two)
+ *   rows_len     2 x nc x (9 + frames x nsym)
+ */
 uint32_t dimpstea_modulate(uint32_t bandwidth, uint32_t record,
                            const uint16_t *markers, size_t markers_len,
                            const double *phasors, size_t phasors_len,
@@ -108,12 +182,25 @@ uint32_t dimpstea_modulate(uint32_t bandwidth, uint32_t record,
                            const uint8_t *draws, size_t draws_len,
                            double *rows, size_t rows_len);
 
-/* Conditions 1 2 11 13 14. Writes each carrier's phase at each place of the window, and the phases after it. */
+/*
+ * Conditions 1 2 11 13 14. Writes each carrier's phase at each of `window` places, at most 4,096, and the phases after
+ * them. The first window starts from phases of 0.
+ *   phases_len   nc
+ *   out_len      nc x window, carrier after carrier
+ */
 uint32_t dimpstea_nco_phase(uint32_t bandwidth, uint32_t record, size_t window,
                             float *phases, size_t phases_len,
                             float *out, size_t out_len);
 
-/* Conditions 1 2 8 11 to 14. Writes the window's samples from place on, and the phases after it. */
+/*
+ * Conditions 1 2 8 11 to 14. Writes the 48 kHz samples at `window` places from `place` on, and the phases after them. A
+ * signal of L = 9 + frames x nsym symbols a carrier has 16 x (32 x L + greatest stagger + taps - 1) + 31 places.
+ *   symbols_len  2 x nc x L, as dimpstea_modulate wrote them
+ *   waves_len    2 x nc x window: carrier after carrier a cosine and a sine of the phase that dimpstea_nco_phase gives
+ *                for each place
+ *   phases_len   nc, the phases before the window
+ *   out_len      window
+ */
 uint32_t dimpstea_carrier_audio(uint32_t bandwidth, uint32_t record, uint32_t frames,
                                 const double *symbols, size_t symbols_len,
                                 uint64_t place, size_t window,
@@ -121,7 +208,13 @@ uint32_t dimpstea_carrier_audio(uint32_t bandwidth, uint32_t record, uint32_t fr
                                 float *phases, size_t phases_len,
                                 double *out, size_t out_len);
 
-/* Conditions 1 to 7, 11 (a state of another length), 15 16. Writes a fresh receiver's state. */
+/*
+ * Conditions 1 to 7, 11 (a state of another length), 15 16. Writes a fresh receiver's state, whose first sample has the
+ * number `start`.
+ *   markers_len, phasors_len as for dimpstea_modulate
+ *   book_len     6,000: entry k turns a sample by -k / 3,000 of a turn, (cos a, -sin a) with a = 2 pi x k / 3000
+ *   state_len    DIMPSTEA_STATE
+ */
 uint32_t dimpstea_open(uint32_t bandwidth, uint32_t record,
                        const uint16_t *markers, size_t markers_len,
                        const double *phasors, size_t phasors_len,
@@ -133,8 +226,10 @@ uint32_t dimpstea_open(uint32_t bandwidth, uint32_t record,
  * Conditions 1 to 7, 16 to 20. Writes the next state and the memory; *released is 1 where a detection was
  * released, whose position and metric are then written, and 0 otherwise.
  *
- * The memory may hold anything at first, and goes with the state from then on. Lengths: book_len 6,000,
- * samples_len 2 for each sample (at most 8,000), and the others as for dimpstea_locate.
+ * number is that of the first sample, the sample base + the sample length of the state: `start` in the first feed.
+ * The memory may hold anything at first, and goes with the state from then on: a state is used with the memory that the
+ * same call left, and with no other. Tables and book may be others in each feed. Lengths: book_len 6,000, samples_len
+ * 2 for each sample (at most 8,000), and the others as for dimpstea_locate.
  */
 uint32_t dimpstea_feed(uint32_t bandwidth, uint32_t record,
                        const uint16_t *markers, size_t markers_len,
@@ -217,17 +312,20 @@ uint32_t dimpstea_read(uint32_t bandwidth, uint32_t record,
                        double *out, size_t out_len,
                        uint64_t *t, double *result, size_t result_len);
 
-/* Condition 21. Offers position, with a candidate's metric where has_metric isn't 0, to a hold by itself. */
+/*
+ * Condition 21. Offers position, with a candidate's metric where has_metric isn't 0, to a hold by itself. Writes the
+ * hold after it; *released, *release_position and *release_metric as dimpstea_feed does. hold_len is DIMPSTEA_HOLD.
+ */
 uint32_t dimpstea_offer(uint64_t *hold, size_t hold_len, double *held_metric,
                         uint64_t position, uint64_t has_metric, double metric,
                         uint64_t *released, uint64_t *release_position, double *release_metric);
 
-/* Conditions 1 2 11. Writes the payload bits that the signs of the soft bits give. */
+/* Conditions 1 2 11. Writes the payload bits that the signs of the soft bits give, a bit a byte; both lengths are n. */
 uint32_t dimpstea_payload_bits(uint32_t bandwidth, uint32_t record,
                                const double *soft, size_t soft_len,
                                uint8_t *out, size_t out_len);
 
-/* Conditions 1 2 9. Writes how many bits of the two payloads differ. */
+/* Conditions 1 2 9. Writes how many bits of the two payloads differ; both lengths are n. */
 uint32_t dimpstea_meter(uint32_t bandwidth, uint32_t record,
                         const uint8_t *sent, size_t sent_len,
                         const uint8_t *read, size_t read_len,

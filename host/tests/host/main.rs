@@ -1,4 +1,5 @@
 //! The host's types over the proved library, from a payload sent to a payload read.
+mod c_example;
 mod drift;
 mod handing_on;
 mod in_hand;
