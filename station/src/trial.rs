@@ -78,9 +78,16 @@ pub struct Words {
     #[arg(long, value_name = "N", value_parser = cli::threads)]
     pub threads: Option<usize>,
     /// Adds up the rows of files that --csv wrote, in place of a trial
-    #[arg(long, value_name = "FILE", num_args = 1.., conflicts_with_all = ["fading", "delay_spread"])]
+    #[arg(long, value_name = "FILE", num_args = 1.., conflicts_with_all = OF_A_TRIAL)]
     pub add: Vec<PathBuf>,
 }
+
+/// The words that only a trial of its own takes.
+const OF_A_TRIAL: [&str; 9] =
+    ["layout", "snr", "fading", "delay_spread", "offset", "frames", "seed", "shard", "threads"];
+
+/// Frames that are shared out to the threads at a time; after each batch Ctrl-C is looked for.
+const BATCH: u64 = 512;
 
 /// SNRs in dB.
 #[derive(Clone, Debug, PartialEq)]
@@ -97,29 +104,28 @@ pub struct Shard {
 
 /// Does what they ask for.
 pub fn run(words: &Words) -> Result<(), Error> {
+    // Rows are read before anything is written, perhaps to one of their files.
+    let sum = if words.add.is_empty() { None } else { Some(rows::added(&words.add)?) };
     // Files that can't be written are met before the work.
     let mut csv = words.csv.as_deref().map(Csv::new).transpose()?;
     if let Some(folder) = &words.plot {
         fs::create_dir_all(folder).map_err(|error| Error::io(folder, "making the folder", &error))?;
     }
-    let rows = if words.add.is_empty() { tried(words, &mut csv)? } else { added(words, &mut csv)? };
+    let rows = match sum {
+        Some(rows) => show(&rows, &mut csv).map(|()| rows)?,
+        None => tried(words, &mut csv)?,
+    };
     if let Some(folder) = &words.plot {
         plot::rates(&folder.join("trial.svg"), &rows::panels(&rows))?;
     }
     interrupt::check()
 }
 
-fn added(words: &Words, csv: &mut Option<Csv>) -> Result<Vec<Row>, Error> {
-    let rows = rows::added(&words.add)?;
-    show(&rows, csv)?;
-    Ok(rows)
-}
-
 /// Tries each layout, and shows its rows as soon as it is done; after Ctrl-C those of the frames that were.
 fn tried(words: &Words, csv: &mut Option<Csv>) -> Result<Vec<Row>, Error> {
     let pool = threads::pool(words.threads)?;
-    let of_shard = words.shard.indices(words.frames).count() as u64;
-    let progress = Progress::new("trial", Some(of_shard * words.layout.len() as u64));
+    let units = words.shard.count(words.frames).saturating_mul(words.layout.len() as u64);
+    let progress = Progress::new("trial", Some(units));
     let mut rows = Vec::new();
     for layout in &words.layout {
         let of_layout = pool.install(|| layout_rows(words, layout, &progress))?;
@@ -150,16 +156,21 @@ pub fn layout_rows(words: &Words, layout: &Layout, progress: &Progress) -> Resul
     let setting = Setting::new(layout, through.fading, through.offset_hz, words.seed)?;
     let snrs = &words.snr.0;
     let none = || vec![Counts::default(); snrs.len()];
-    let indices: Vec<u64> = words.shard.indices(words.frames).collect();
-    let counted = indices.into_par_iter().with_max_len(1).map(|index| {
-        let counts = if interrupt::met() { None } else { setting.frame(index, snrs)? };
-        progress.advance(1);
-        Ok(counts.unwrap_or_else(none))
-    });
-    let counts = counted.try_reduce(none, |mut sums, counts| {
+    let add = |mut sums: Vec<Counts>, counts: Vec<Counts>| {
         sums.iter_mut().zip(&counts).for_each(|(sum, count)| *sum += count);
-        Ok(sums)
-    })?;
+        sums
+    };
+    let (mut counts, mut done, all) = (none(), 0, words.shard.count(words.frames));
+    while done < all && !interrupt::met() {
+        let batch = (all - done).min(BATCH);
+        let counted = (0..batch as usize).into_par_iter().with_max_len(1).map(|number| {
+            let counted = setting.frame(words.shard.index(done + number as u64), snrs)?;
+            progress.advance(1);
+            Ok(counted.unwrap_or_else(none))
+        });
+        counts = add(counts, counted.try_reduce(none, |sums, counts| Ok(add(sums, counts)))?);
+        done += batch;
+    }
     let row = |(&snr_db, counts)| Row { layout: layout.clone(), through, snr_db, counts };
     Ok(snrs.iter().zip(counts).map(row).collect())
 }
@@ -172,9 +183,14 @@ impl Words {
 }
 
 impl Shard {
-    /// The frames' indices.
-    pub fn indices(self, frames: u64) -> impl Iterator<Item = u64> {
-        (self.k - 1..frames).step_by(self.n as usize)
+    /// How many of the frames it has.
+    pub fn count(self, frames: u64) -> u64 {
+        frames.checked_sub(self.k).map_or(0, |after| after / self.n + 1)
+    }
+
+    /// The index of one of them.
+    pub fn index(self, number: u64) -> u64 {
+        self.k - 1 + number * self.n
     }
 }
 
@@ -263,9 +279,11 @@ mod tests {
         for bad in ["", "3", "0/4", "5/4", "1/0", "-1/2", "1/2/3"] {
             assert!(shard(bad).is_err(), "{bad}");
         }
-        let mut all: Vec<u64> = (1..=4).flat_map(|k| Shard { k, n: 4 }.indices(10)).collect();
-        all.sort_unstable();
-        assert_eq!(all, (0..10).collect::<Vec<_>>());
-        assert_eq!(Shard { k: 4, n: 4 }.indices(2).count(), 0);
+        let indices = |shard: Shard, frames: u64| (0..shard.count(frames)).map(move |number| shard.index(number));
+        for frames in 0..20 {
+            let mut all: Vec<u64> = (1..=4).flat_map(|k| indices(Shard { k, n: 4 }, frames)).collect();
+            all.sort_unstable();
+            assert_eq!(all, (0..frames).collect::<Vec<_>>());
+        }
     }
 }

@@ -94,6 +94,9 @@ fn threads_and_shards_change_nothing() {
     let sum = printed("trial", &add.iter().map(String::as_str).collect::<Vec<_>>());
     assert_eq!(csv("sum.csv"), csv("one.csv"));
     assert_eq!(sum, one);
+    // A file that is added may be written over.
+    printed("trial", &["--csv", &folder.file("sum.csv"), "--add", &folder.file("sum.csv")]);
+    assert_eq!(csv("sum.csv"), csv("one.csv"));
     let other = printed(&words.replace("--seed 5", "--seed 6"), &[]);
     assert_ne!(other, one);
 }
@@ -162,7 +165,7 @@ fn an_interrupted_trial_leaves_what_is_done() {
     let folder = Folder::new("interrupted");
     let csv = folder.file("some.csv");
     let mut command = Command::new(env!("CARGO_BIN_EXE_dimpstea"));
-    command.args(["trial", "--frames", "1000000", "--threads", "1", "--snr", "0", "--csv", &csv]);
+    command.args(["trial", "--frames", "1000000000000", "--threads", "1", "--snr", "0", "--csv", &csv]);
     let child = command.stdout(Stdio::piped()).stderr(Stdio::piped()).spawn().unwrap();
     // The file is there once Ctrl-C is watched for.
     while !Path::new(&csv).exists() {
@@ -176,7 +179,7 @@ fn an_interrupted_trial_leaves_what_is_done() {
     assert!(String::from_utf8(output.stderr).unwrap().contains("interrupted"));
     let text = std::fs::read_to_string(&csv).unwrap();
     let sent: u64 = text.lines().nth(1).and_then(|line| line.split(',').nth(5)).unwrap().parse().unwrap();
-    assert!(0 < sent && sent < 1_000_000, "{text}");
+    assert!(0 < sent && sent < 1_000_000_000_000, "{text}");
 }
 
 #[test]
@@ -194,6 +197,7 @@ fn wrong_words_are_answered() {
         "trial --offset 5000",
         "trial --threads 0",
         "trial --seed -1",
+        "trial --add a.csv --frames 5",
     ] {
         let (status, error) = failed(words, &[]);
         assert_eq!(status, Some(2), "{words}: {error}");

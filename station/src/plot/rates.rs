@@ -104,7 +104,7 @@ fn draw<'a>(area: &Area<'a>, panel: &Panel, names: &[&str]) -> Drawn<'a> {
 }
 
 fn draw_curve<'a>(chart: &mut Chart<'_, 'a>, curve: &Curve, colour: RGBColor) -> Drawn<'a> {
-    let percent = |count: u64, sent: u64| 100.0 * count as f64 / sent.max(1) as f64;
+    let percent = |count: u64, sent: u64| (100.0 * count as f64 / sent.max(1) as f64).min(100.0);
     let exact = curve.rates.iter().map(|rate| (rate.snr_db, percent(rate.exact, rate.sent)));
     let detected = curve.rates.iter().map(|rate| (rate.snr_db, percent(rate.detected, rate.sent)));
     let (thick, thin) = (colour.stroke_width(2), colour.mix(0.55).stroke_width(1));
@@ -124,7 +124,7 @@ pub(super) fn interval(met: u64, tried: u64) -> (f64, f64) {
     if tried == 0 {
         return (0.0, 1.0);
     }
-    let (n, p, z) = (tried as f64, met as f64 / tried as f64, 1.96f64);
+    let (n, p, z) = (tried as f64, (met as f64 / tried as f64).min(1.0), 1.96f64);
     let middle = p + z * z / (2.0 * n);
     let half = z * (p * (1.0 - p) / n + z * z / (4.0 * n * n)).sqrt();
     let whole = 1.0 + z * z / n;

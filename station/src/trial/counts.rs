@@ -27,16 +27,22 @@ pub struct Counts {
 
 impl AddAssign<&Counts> for Counts {
     fn add_assign(&mut self, other: &Counts) {
-        self.sent += other.sent;
-        self.detected += other.detected;
-        self.exact += other.exact;
-        self.bits += other.bits;
-        self.bits_wrong += other.bits_wrong;
-        self.cells += other.cells;
-        self.cells_wrong += other.cells_wrong;
-        self.elsewhere += other.elsewhere;
-        for (&number, count) in &other.refusals {
-            *self.refusals.entry(number).or_default() += count;
+        let pairs = [
+            (&mut self.sent, other.sent),
+            (&mut self.detected, other.detected),
+            (&mut self.exact, other.exact),
+            (&mut self.bits, other.bits),
+            (&mut self.bits_wrong, other.bits_wrong),
+            (&mut self.cells, other.cells),
+            (&mut self.cells_wrong, other.cells_wrong),
+            (&mut self.elsewhere, other.elsewhere),
+        ];
+        for (sum, count) in pairs {
+            *sum = sum.saturating_add(count);
+        }
+        for (&number, &count) in &other.refusals {
+            let sum = self.refusals.entry(number).or_default();
+            *sum = sum.saturating_add(count);
         }
     }
 }

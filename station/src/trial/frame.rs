@@ -59,6 +59,9 @@ impl Setting {
     /// What one frame counts at each of the SNRs, in dB. It is the same frame, fading and noise at each of them; only
     /// the noise's level differs. Nothing once Ctrl-C was met.
     pub fn frame(&self, index: u64, snrs: &[f64]) -> Result<Option<Vec<Counts>>, Error> {
+        if interrupt::met() {
+            return Ok(None);
+        }
         let arrived = self.send(index)?;
         let noise = channel::noise(arrived.samples.len(), &mut self.random(index, Stream::Noise));
         let mut counts = Vec::with_capacity(snrs.len());

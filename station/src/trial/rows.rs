@@ -79,7 +79,7 @@ impl Row {
 }
 
 fn number(text: &str) -> Option<f64> {
-    text.parse().ok().filter(|number: &f64| number.is_finite())
+    text.parse().ok().filter(|number: &f64| number.abs() <= 1000.0)
 }
 
 /// The rows of CSV files, those of the same layout, channel and SNR added up, in order.
@@ -172,7 +172,7 @@ fn line(row: &Row) -> String {
 
 /// Both rates, in twentieths.
 fn bar(counts: &Counts) -> String {
-    let twentieths = |count: u64| (20 * count + counts.sent / 2).checked_div(counts.sent).unwrap_or(0) as usize;
+    let twentieths = |count: u64| (20.0 * count as f64 / counts.sent.max(1) as f64).round().min(20.0) as usize;
     let (exact, detected) = (twentieths(counts.exact), twentieths(counts.detected));
     "█".repeat(exact) + &"░".repeat(detected.saturating_sub(exact))
 }
@@ -264,5 +264,7 @@ mod tests {
         assert!(table.contains("white noise, -2.5 Hz off") && table.contains("two-path fading, 0.5 Hz, 2 ms"));
         assert!(table.contains("24:40") && table.contains("██████████░░░░░░░░░░"));
         assert!(bar(&Counts::default()).is_empty());
+        let most = Counts { exact: u64::MAX, ..Counts::default() };
+        assert_eq!(bar(&most).chars().count(), 20);
     }
 }
