@@ -18,11 +18,11 @@ use Rattle.complex.specs.Pairs.{cget}
 use Rattle.laws.specs.Tests.{inRange}
 use Rattle.level.specs.declared.Layout.{Layout}
 
--- "The marker table holds nc rows of marker values, ..": value k of carrier c
+-- "The marker table holds nc rows of marker values, then nc rows of spf − 1 flags": value k of carrier c
 abbrev pub value : Layout → List ℕ → ℕ → ℕ → ℕ
 value l table c k = getD table (c * l .markers + k) 0
 
--- ".. then nc rows of spf − 1 flags": flag j of carrier c; spf − 1 is nsym
+-- flag j of carrier c; spf − 1 is nsym
 abbrev pub flag : Layout → List ℕ → ℕ → ℕ → ℕ
 flag l table c j = getD table (l .nc * l .markers + (c * l .nsym + j)) 0
 
@@ -47,7 +47,7 @@ unfoldable pub wrongValue : Layout → List ℕ → Bool
 unfolding any badValue
 wrongValue l table = any (λ c. any (badValue l table c) (l .markers)) (l .nc)
 
--- "A value v .. sets flag v − 2": a flag "not 1 where a value sets it or not 0 elsewhere"
+-- "A value v marks symbol v and sets flag v − 2.": a flag "not 1 where a value sets it or not 0 elsewhere"
 unfoldable pub badFlag : Layout → List ℕ → ℕ → ℕ → Bool
 unfolding marked
 badFlag l table c j = not (eqb (flag l table c j) (cond (marked l table c (j + 2)) 1 0))

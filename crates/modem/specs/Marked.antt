@@ -63,6 +63,7 @@ holding12 dead block m = record { hold = 8; dead = dead; block = block; best = A
 
 -- "Marked (P)": each case, in 01's order
 pub record Marked : Type 0 where
+  -- "500/4 gives 748, keep 16,672, one-frame audio 206,623"; "2750/10 gives 8944"
   pub n-500-4 : numberIn (λ l. l .n) 500 4 ≡ answered 748
   pub keep-500-4 : numberIn (λ l. l .keep) 500 4 ≡ answered 16672
   pub audio-500-4 : numberIn (λ l. audioLength l 1) 500 4 ≡ answered 206623
