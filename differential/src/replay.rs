@@ -1,5 +1,5 @@
-//! The fixed list: what the programs replay_symbols, replay_audio, replay_detections, feed_cases and
-//! replay_readings print, made from the reference's answers to the inputs of crates/replay_inputs, beside what the
+//! The fixed list: what the programs replay_symbols, replay_audio, replay_detections, feed_cases, replay_readings and
+//! replay_soft_bits print, made from the reference's answers to the inputs of crates/replay_inputs, beside what the
 //! repository has them print.
 use crate::count::Count;
 use reference::adaptor::{self, Layout, Reading, Tables};
@@ -19,6 +19,7 @@ pub fn run(count: &mut Count) {
         ("replay_detections", detections(6, 25_700)),
         ("feed_cases", cuttings()),
         ("replay_readings", readings()),
+        ("replay_soft_bits", soft_bits()),
     ];
     for (program, text) in programs {
         fs::write(written.join(program), &text).expect("target/replays");
@@ -222,6 +223,23 @@ fn readings() -> String {
             let r = receiver.read(t0, &drift_rows(layout, &book, r.t, 1)).expect("a frame in hand");
             write!(text, "500/4 with drift rows at {t0}\n{}{}", located(&r), measured(&r)).unwrap();
         }
+    }
+    text
+}
+
+/// A frame of each of two larger layouts, read at its detection.
+fn soft_bits() -> String {
+    let mut text = String::new();
+    for (bandwidth, record, len) in [(2300, 7, 12_400), (2750, 10, 12_400)] {
+        let layout = adaptor::layout(bandwidth, record).expect("a PSK layout");
+        let (book, mut chain) = (book(), Chain(1));
+        let tables = chain.tables(layout, &book);
+        let rows = chain.rows(layout, &tables, 1);
+        let samples = chain.signal(layout, &rows, &book, 700, len);
+        let mut receiver = adaptor::open(layout, &tables, 1000);
+        let released: Vec<_> = samples.chunks(4000).flat_map(|feed| receiver.feed(feed, &book)).collect();
+        let r = receiver.read(released.last().expect("a detection").0, &[]).expect("a frame in hand");
+        write!(text, "{bandwidth}/{record}, the frame at {}\n{}", r.t, measured(&r)).unwrap();
     }
     text
 }
