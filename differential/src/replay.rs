@@ -1,7 +1,8 @@
-//! The fixed list: what the programs replay_symbols, replay_audio, replay_detections and feed_cases print, made from
-//! the reference's answers to the inputs of crates/replay_inputs, beside what the repository has them print.
+//! The fixed list: what the programs replay_symbols, replay_audio, replay_detections, feed_cases, replay_readings and
+//! replay_soft_bits print, made from the reference's answers to the inputs of crates/replay_inputs, beside what the
+//! repository has them print.
 use crate::count::Count;
-use reference::adaptor::{self, Layout, Tables};
+use reference::adaptor::{self, Layout, Reading, Tables};
 use reference::Complex64;
 use std::fmt::Write;
 use std::fs;
@@ -17,6 +18,8 @@ pub fn run(count: &mut Count) {
         ("replay_audio", audio()),
         ("replay_detections", detections(6, 25_700)),
         ("feed_cases", cuttings()),
+        ("replay_readings", readings()),
+        ("replay_soft_bits", soft_bits()),
     ];
     for (program, text) in programs {
         fs::write(written.join(program), &text).expect("target/replays");
@@ -172,4 +175,71 @@ fn cuttings() -> String {
     let len = 26_800;
     let cutting = format!("{len} as told\n{}", detections(4, len));
     format!("{}equal\n", cutting.repeat(3))
+}
+
+fn hex(x: f64) -> String {
+    format!("{:016x}", x.to_bits())
+}
+
+/// What a reading measures, then every soft bit, four a line.
+fn measured(r: &Reading) -> String {
+    let mut text = format!("    g {} nvar {} median {}\n", hex(r.g), hex(r.nvar), hex(r.median));
+    for line in r.soft.chunks(4) {
+        let line: Vec<String> = line.iter().map(|&x| hex(x)).collect();
+        writeln!(text, "{}", line.join(" ")).unwrap();
+    }
+    text
+}
+
+fn located(r: &Reading) -> String {
+    let sum = r.pilot_sum;
+    format!("  read: t {} chi {} pilot sum {} {}\n", r.t, hex(r.chi), hex(sum.re), hex(sum.im))
+}
+
+/// Drift rows for a frame at t that turn by `more` Hz more than the book does for the carriers.
+fn drift_rows(layout: Layout, book: &[Complex64], t: i64, more: usize) -> Vec<Vec<Complex64>> {
+    let delay = (layout.taps().len() - 1) / 2;
+    let stagger = (0..layout.nc()).map(|c| layout.stagger(c)).max().unwrap_or(0);
+    let first = t as usize - delay - 1;
+    let count = stagger + 32 * (layout.nsym() - 1) + 2 * delay + 2;
+    let entry = |hz: u32, n: usize| book[(hz as usize + more) * n % 3000];
+    layout.carriers().iter().map(|&hz| (first..first + count).map(|n| entry(hz, n)).collect()).collect()
+}
+
+/// Two frames of 500/4, each after the feeds that release its detection; the first with drift rows too.
+fn readings() -> String {
+    let (layout, book, mut chain) = (layout(4), book(), Chain(1));
+    let tables = chain.tables(layout, &book);
+    let rows = chain.rows(layout, &tables, 2);
+    let samples = chain.signal(layout, &rows, &book, 700, 26_800);
+    let mut receiver = adaptor::open(layout, &tables, 1000);
+    let mut text = String::new();
+    for (part, drifting) in [(&samples[..16_000], true), (&samples[16_000..], false)] {
+        let released: Vec<_> = part.chunks(4000).flat_map(|feed| receiver.feed(feed, &book)).collect();
+        let t0 = released.last().expect("a detection").0;
+        let r = receiver.read(t0, &[]).expect("a frame in hand");
+        write!(text, "500/4 at {t0}\n{}{}", located(&r), measured(&r)).unwrap();
+        if drifting {
+            let r = receiver.read(t0, &drift_rows(layout, &book, r.t, 1)).expect("a frame in hand");
+            write!(text, "500/4 with drift rows at {t0}\n{}{}", located(&r), measured(&r)).unwrap();
+        }
+    }
+    text
+}
+
+/// A frame of each of two larger layouts, read at its detection.
+fn soft_bits() -> String {
+    let mut text = String::new();
+    for (bandwidth, record, len) in [(2300, 7, 12_400), (2750, 10, 12_400)] {
+        let layout = adaptor::layout(bandwidth, record).expect("a PSK layout");
+        let (book, mut chain) = (book(), Chain(1));
+        let tables = chain.tables(layout, &book);
+        let rows = chain.rows(layout, &tables, 1);
+        let samples = chain.signal(layout, &rows, &book, 700, len);
+        let mut receiver = adaptor::open(layout, &tables, 1000);
+        let released: Vec<_> = samples.chunks(4000).flat_map(|feed| receiver.feed(feed, &book)).collect();
+        let r = receiver.read(released.last().expect("a detection").0, &[]).expect("a frame in hand");
+        write!(text, "{bandwidth}/{record}, the frame at {}\n{}", r.t, measured(&r)).unwrap();
+    }
+    text
 }

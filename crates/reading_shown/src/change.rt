@@ -31,7 +31,7 @@ pub fn ones(out: &mut [f64]) {
 }
 
 // A drift row: entries of the book from place `start` on, each `hz` places after the one before.
-fn row(book: &[f64], hz: usize, start: usize, out: &mut [f64])
+pub fn row(book: &[f64], hz: usize, start: usize, out: &mut [f64])
     requires { ⌜ (length (now book) ≡ 6000) × (hz ≤ 3000) × (start < 3000) ⌝ }
 {
     let mut at = start;

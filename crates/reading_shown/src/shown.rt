@@ -1,4 +1,4 @@
-// How the calls that locate and read are shown: numbers by their 64 bits in hexadecimal, soft bits by a digest.
+// How the calls that locate and read are shown: numbers by their 64 bits in hexadecimal, soft bits by a digest or all.
 use complex::Complex;
 use libc::STDOUT_FILENO;
 use locate::Located;
@@ -41,14 +41,38 @@ fn show_located(x: Located) {
     replay::end_line();
 }
 
-fn show_reading(r: Reading) {
+// What a reading measures of the frame's steps.
+pub fn measures(g: f64, nvar: f64, median: f64) {
+    number(b"    g ", g);
+    number(b" nvar ", nvar);
+    number(b" median ", median);
+    replay::end_line();
+}
+
+pub fn show_reading(r: Reading) {
     let located = r.located;
     write(b"  read:");
     show_located(located);
-    number(b"    g ", r.g);
-    number(b" nvar ", r.nvar);
-    number(b" median ", r.median);
-    replay::end_line();
+    measures(r.g, r.nvar, r.median);
+}
+
+// What follows the number at place i: four stand in a line.
+fn separate(i: usize) {
+    if i % 4 == 3 {
+        replay::end_line();
+    } else {
+        replay::blank();
+    }
+}
+
+// All soft bits.
+pub fn all_soft(soft: &[f64]) {
+    let mut i = 0;
+    while i < soft.len() {
+        replay::show(soft[i]);
+        separate(i);
+        i += 1;
+    }
 }
 
 fn show_metered(m: Metered) {
