@@ -1,5 +1,6 @@
 //! Compares the proved modem with the Rust reference and with the model of refusals, on random inputs.
 mod count;
+mod cutting;
 mod demapping;
 mod faults;
 mod holds;
@@ -44,6 +45,7 @@ fn main() -> ExitCode {
     let count = &mut Count::default();
     sending::run(cases, random, count);
     receiving::run(cases, random, count);
+    cutting::run(cases / 2, random, count);
     demapping::run(2 * cases, random, count);
     holds::run(20 * cases, random, count);
     replay::run(count);

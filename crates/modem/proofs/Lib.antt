@@ -17,4 +17,5 @@ pub mod Signs
 pub mod Frame
 pub mod InHand
 pub mod Demand3
+pub mod Cutting
 pub mod RunRead

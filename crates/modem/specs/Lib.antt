@@ -9,6 +9,7 @@ pub mod LocateFollows
 pub mod FrameRead
 pub mod Signs
 pub mod Demand3
+pub mod Cutting
 pub mod Marked
 pub mod Run
 pub mod RunRead

@@ -15,10 +15,10 @@ use Rattle.modem_hosts.proofs.OpenedLists.{opened-answers}
 use Rattle.modem_hosts.proofs.ZeroCalls.{sent-done, read-said}
 
 module _ (h : HostSession) where
-  fed : FedAs (h .opened) (h .lent) (h .given) (h .state) (h .memory) (h .replies)
+  pub fed : FedAs (h .opened) (h .lent) (h .given) (h .state) (h .memory) (h .replies)
   fed = feeds-read (h .opened) (h .lent) (h .given) (h .state) (h .memory) (h .replies) (h .calls)
 
-  abbrev session : Session
+  abbrev pub session : Session
   session =
       record {
         bandwidth = h .bandwidth;
