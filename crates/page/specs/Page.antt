@@ -33,7 +33,7 @@ unfoldable pub linesOf : List Level → List ℕ
 linesOf [] = []
 linesOf (r ∷ rs) = lineOf (layoutOf r) ++ (10 ∷ linesOf rs)
 
--- "the fifteen PSK layouts by bandwidth, then record": the rows that a bandwidth and a record choose from, in their order
+-- "the fifteen PSK layouts by bandwidth, then record": the rows that a bandwidth and a record choose from, in order
 unfoldable pub page : List ℕ
 page = linesOf levels
 
