@@ -21,7 +21,7 @@ use Rattle.level.specs.RowLaws.{is-layout}
 use Rattle.nco.proofs.RowsLaws.{row-within, rows-at}
 use Rattle.nco.specs.Phase.{carrierPhase, phasesAfter, phaseRows}
 use Rattle.nco.proofs.PhaseLaws.{carrier-join, phases-join}
-use Rattle.nco.specs.declared.Answer.the-variants.{Done}
+use Rattle.refusal.specs.declared.Answer.the-variants.{Done}
 use Rattle.nco.proofs.WindowCallLaws.{completed, chosen-of}
 use Rattle.audio.specs.Audio.{audio, audioWindow, lentWave}
 use Rattle.audio.specs.CarrierAudio.{audioFault, CarrierAudio}

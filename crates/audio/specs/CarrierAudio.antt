@@ -14,7 +14,7 @@ use Rattle.laws.specs.Tests.{inSize}
 use Rattle.level.specs.Frames.{wrongFrames}
 use Rattle.level.specs.declared.Layout.{Layout}
 use Rattle.level.specs.Lengths.{rowLength, audioLength}
-use Rattle.nco.specs.declared.Answer.{Answer}
+use Rattle.refusal.specs.declared.Answer.{Answer}
 use Rattle.nco.specs.Nco.{wrongPhases}
 use Rattle.nco.specs.WindowCall.{WindowCall}
 use Rattle.audio.specs.Audio.{lentWave, audioWindow}

@@ -10,7 +10,7 @@ use Rattle.refusal.specs.Outcome.{answered}
 use Rattle.level.specs.declared.Layout.{Layout}
 use Rattle.level.specs.Layout.{chosen}
 use Rattle.level.specs.Lengths.{audioLength}
-use Rattle.nco.specs.declared.Answer.the-variants.{Done}
+use Rattle.refusal.specs.declared.Answer.the-variants.{Done}
 use Rattle.nco.specs.Phase.{carrierPhase, phasesAfter, phaseRows}
 use Rattle.audio.specs.Audio.{audioWindow}
 use Rattle.audio.specs.CarrierAudio.{CarrierAudio}

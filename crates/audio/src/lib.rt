@@ -10,7 +10,7 @@ mod window;
 
 use level::Chosen;
 use level::Layout;
-use nco::Answer;
+use refusal::Answer;
 use refusal::Fault;
 use refusal::Place;
 

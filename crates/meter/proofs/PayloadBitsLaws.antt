@@ -7,7 +7,7 @@ use Rattle.refusal.specs.declared.Refusal.{Refusal}
 use Rattle.refusal.specs.Refusal.{numberOf}
 use Rattle.refusal.specs.Outcome.{Outcome, refused, answered}
 use Rattle.level.specs.declared.Layout.{Layout}
-use Rattle.meter.specs.declared.Answer.the-variants.{Done, Refused}
+use Rattle.refusal.specs.declared.Answer.the-variants.{Done, Refused}
 use Rattle.meter.specs.PayloadBits.{readBits, bitsAccepted, PayloadBits}
 
 pub bits-refused : (chosen : Outcome Layout) (soft : List Float) (out : List ℕ) (r : Refusal) → bitsAccepted chosen soft out ≡ refused (numberOf r) → PayloadBits chosen soft out (Refused r) out

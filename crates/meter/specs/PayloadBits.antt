@@ -8,13 +8,11 @@ use lib.ListN.{length, getD}
 use lib.Ieee.{Float, nan}
 use Rattle.refusal.specs.declared.Refusal.the-variants.{Buffer}
 use Rattle.refusal.specs.declared.Fault.{Fault}
-use Rattle.refusal.specs.Refusal.{numberOf}
-use Rattle.refusal.specs.Outcome.{Outcome, refused, answered, andThen, done, after, firstFault, judged}
+use Rattle.refusal.specs.Outcome.{Outcome, answered, andThen, done, after, firstFault, judged, outcome}
 use Rattle.complex.specs.Lists.{tabulate}
 use Rattle.laws.specs.Tests.{signBit}
 use Rattle.level.specs.declared.Layout.{Layout}
-use Rattle.meter.specs.declared.Answer.{Answer}
-use Rattle.meter.specs.declared.Answer.the-variants.{Done, Refused}
+use Rattle.refusal.specs.declared.Answer.{Answer}
 
 -- "A read bit is 1 when the soft bit's sign bit is set.": the bits that n soft bits read as
 unfoldable pub readBits : List Float → ℕ → List ℕ
@@ -28,11 +26,6 @@ bitsFault l soft out = firstFault ((Buffer, not (eqb (length soft) (l .n)) || no
 -- the layout of a call that meets no fault, or its refusal, by what its bandwidth and record choose
 abbrev pub bitsAccepted : Outcome Layout → List Float → List ℕ → Outcome Layout
 bitsAccepted chosen soft out = andThen chosen (λ l. judged (bitsFault l soft out) (answered l))
-
--- the code's answer in 01's terms: it has no values
-abbrev pub outcome : Answer → Outcome Unit
-outcome Done = answered tt
-outcome (Refused r) = refused (numberOf r)
 
 pub record PayloadBits (chosen : Outcome Layout) (soft : List Float) (out : List ℕ) (r : Answer) (out-then : List ℕ)
     : Type 0 where

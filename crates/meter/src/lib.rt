@@ -7,17 +7,12 @@ ghost use Rattle.meter.specs.Meter.{wrongBits, differing, outcome, meter
 ghost use Rattle.meter.specs.PayloadBits.{readBits, PayloadBits};
 use level::Chosen;
 use level::Layout;
+use refusal::Answer;
 use refusal::Refusal;
 
 // What the meter answers: the number of differing bits.
 pub enum Metered {
     Differing(usize),
-    Refused(Refusal),
-}
-
-// What a call that fills a lent buffer answers.
-pub enum Answer {
-    Done,
     Refused(Refusal),
 }
 

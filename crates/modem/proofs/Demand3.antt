@@ -20,7 +20,7 @@ use Rattle.level.specs.Layout.{chosen}
 use Rattle.level.specs.Rows.{IsLayout}
 use Rattle.level.specs.RowLaws.{is-layout, same-layout}
 use Rattle.dat.specs.AcceptedLaws.{row-in}
-use Rattle.psk.specs.declared.Sent.the-variants as sent
+use Rattle.refusal.specs.declared.Answer.the-variants as sent
 use Rattle.psk.specs.Symbols.{Sending}
 use Rattle.psk.specs.Send.{Modulated}
 use Rattle.psk.specs.Accepted.{Ready, Call}

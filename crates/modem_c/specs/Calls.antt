@@ -9,20 +9,16 @@ use lib.Ieee.{Float}
 use Rattle.refusal.specs.declared.Refusal.the-variants as no
 use Rattle.refusal.specs.declared.Fault.{Fault}
 use Rattle.refusal.specs.Refusal.{numberOf}
-use Rattle.refusal.specs.Outcome.{Outcome, refused, answered, andThen, firstFault, orElse, judged, after}
+use Rattle.refusal.specs.Outcome as answer
+use Rattle.refusal.specs.Outcome.{Outcome, refused, answered, codeOf, andThen, firstFault, orElse, judged, after}
 use Rattle.level.specs.declared.Layout.{Layout}
 use Rattle.level.specs.Layout.{chosen}
 use Rattle.dat.specs.Tables.{tableFault}
-use Rattle.psk.specs.declared.Sent.{Sent}
-use Rattle.psk.specs.declared.Sent.the-variants as sent
+use Rattle.refusal.specs.declared.Answer.{Answer}
 use Rattle.psk.specs.Symbols.{Sending}
 use Rattle.psk.specs.Send.{Modulated}
-use Rattle.nco.specs.declared.Answer.{Answer}
-use Rattle.nco.specs.WindowCall as window
 use Rattle.nco.specs.Nco.{NcoPhase}
 use Rattle.audio.specs.CarrierAudio.{CarrierAudio}
-use Rattle.meter.specs.declared.Answer as bits
-use Rattle.meter.specs.PayloadBits as payload
 use Rattle.meter.specs.PayloadBits.{PayloadBits}
 use Rattle.meter.specs.Meter.{metered}
 use Rattle.hold.specs.declared.Hold.{Hold}
@@ -43,23 +39,9 @@ use Rattle.modem_c.specs.Numbers.{layoutNumbers, stateOf, numbersOf, met
 use Rattle.modem_c.specs.Numbers.{position}
 
 -- ---- answers as numbers
--- 0, or the number of the first condition met
-abbrev pub codeOf : {A : Type 0} → Outcome A → ℕ
-codeOf (refused k) = k
-codeOf (answered a) = 0
-
--- the same of the sender's answer
-abbrev pub sentCode : Sent → ℕ
-sentCode sent.Done = 0
-sentCode (sent.Refused r) = numberOf r
-
--- of an answer about a window of places
-abbrev pub windowCode : Answer → ℕ
-windowCode a = codeOf (window.outcome a)
-
--- of an answer about soft bits
-abbrev pub bitsCode : bits.Answer → ℕ
-bitsCode a = codeOf (payload.outcome a)
+-- an answer that has no values, as a number
+abbrev pub answerCode : Answer → ℕ
+answerCode a = codeOf (answer.outcome a)
 
 -- a call that hands on another: there is an answer that meets the inner contract, and its number is the call's
 pub record HandsOn {A : Type 0} (number : A → ℕ) (Contract : A → Type 0) (code : ℕ) : Type 0 where
@@ -70,23 +52,23 @@ pub record HandsOn {A : Type 0} (number : A → ℕ) (Contract : A → Type 0) (
 -- ---- calls that hand on another
 -- sending symbols: `psk::modulate`
 abbrev pub ModulateCall : ℕ → ℕ → Sending → List Float → ℕ → List Float → Type 0
-ModulateCall hz rec m rows code rows′ = HandsOn sentCode (λ a. Modulated hz rec m rows rows′ a) code
+ModulateCall hz rec m rows code rows′ = HandsOn answerCode (λ a. Modulated hz rec m rows rows′ a) code
 
 -- the carriers' phases: `nco::nco_phase`
 abbrev pub NcoPhaseCall : ℕ → ℕ → ℕ → List Float → List Float → ℕ → List Float → List Float → Type 0
 NcoPhaseCall hz rec window phases out code phases′ out′ =
-    HandsOn windowCode (λ a. NcoPhase (chosen hz rec) window phases out a phases′ out′) code
+    HandsOn answerCode (λ a. NcoPhase (chosen hz rec) window phases out a phases′ out′) code
 
 -- the window's samples: `audio::carrier_audio`
 abbrev pub CarrierAudioCall : ℕ → ℕ → ℕ → List Float → ℕ → ℕ → List Float → List Float → List Float
     → ℕ → List Float → List Float → Type 0
 CarrierAudioCall hz rec frames symbols place window waves phases out code phases′ out′ =
-    HandsOn windowCode (λ a. CarrierAudio (chosen hz rec) frames symbols place window waves phases out a phases′ out′)
+    HandsOn answerCode (λ a. CarrierAudio (chosen hz rec) frames symbols place window waves phases out a phases′ out′)
     code
 
 -- the payload bits of soft bits: `meter::payload_bits`
 abbrev pub PayloadBitsCall : ℕ → ℕ → List Float → List ℕ → ℕ → List ℕ → Type 0
-PayloadBitsCall hz rec soft out code out′ = HandsOn bitsCode (λ a. PayloadBits (chosen hz rec) soft out a out′) code
+PayloadBitsCall hz rec soft out code out′ = HandsOn answerCode (λ a. PayloadBits (chosen hz rec) soft out a out′) code
 
 -- ---- the meter
 -- the count is written only where there is one

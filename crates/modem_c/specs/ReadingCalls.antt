@@ -8,7 +8,7 @@ use lib.ListN.{length}
 use lib.Ieee.{Float}
 use Rattle.refusal.specs.declared.Refusal.the-variants as no
 use Rattle.refusal.specs.Refusal.{numberOf}
-use Rattle.refusal.specs.Outcome.{Outcome, refused, andThen, judged, after}
+use Rattle.refusal.specs.Outcome.{Outcome, refused, andThen, judged, after, codeOf}
 use Rattle.level.specs.declared.Layout.{Layout}
 use Rattle.level.specs.Layout.{chosen}
 use Rattle.dat.specs.Tables.{tableFault}
@@ -16,7 +16,6 @@ use Rattle.locate.specs.declared.Located.{Located}
 use Rattle.state.specs.declared.State.{State}
 use Rattle.reading.specs.declared.Reading.{Reading}
 use Rattle.reading.specs.Read.{Asked, locateOutcome, readBegun, readAccepted, readOutcome, scratchLeft, softLeft}
-use Rattle.modem_c.specs.Calls.{codeOf}
 
 -- ---- a result's numbers
 -- "`locate` returns t, chi and the pilot sum": chi, and the pilot sum's two parts

@@ -5,7 +5,7 @@ ghost use Rattle.psk.specs.Symbols.{sending};
 ghost use Rattle.rx.specs.Feed.{given};
 ghost use Rattle.reading.specs.Read.{asked};
 ghost use Rattle.modem_c.specs.Numbers.{stateOf};
-ghost use Rattle.modem_c.specs.Calls.{sentCode, windowCode, bitsCode, candidateOf, lentRelease, lentState};
+ghost use Rattle.modem_c.specs.Calls.{candidateOf, lentRelease, lentState};
 ghost use Rattle.modem_c.specs.Calls.{LayoutCall, ModulateCall, NcoPhaseCall, CarrierAudioCall};
 ghost use Rattle.modem_c.specs.Calls.{PayloadBitsCall, MeterCall, OpenCall, FeedCall, OfferCall};
 ghost use Rattle.modem_c.specs.ReadingCalls.{shortResult, LocateCall, ReadCall};
@@ -16,8 +16,6 @@ use hold::Candidate;
 use hold::LoneAnswer;
 use level::Chosen;
 use meter::Metered;
-use nco::Answer;
-use psk::Sent;
 use reading::LocateAnswer;
 use reading::ReadAnswer;
 use refusal::Fault;
@@ -26,34 +24,6 @@ use refusal::Position;
 use refusal::Refusal;
 use rx::FeedAnswer;
 use rx::OpenAnswer;
-
-// The sender's answer as a number; the same for a window's and a reader's.
-fn sent_code(a: Sent) -> u32
-    ensures { λ r. ⌜ r ≡ sentCode a ⌝ }
-{
-    match a {
-        Sent::Done => 0,
-        Sent::Refused(r) => refusal::number(r),
-    }
-}
-
-fn window_code(a: Answer) -> u32
-    ensures { λ r. ⌜ r ≡ windowCode a ⌝ }
-{
-    match a {
-        Answer::Done => 0,
-        Answer::Refused(r) => refusal::number(r),
-    }
-}
-
-fn bits_code(a: meter::Answer) -> u32
-    ensures { λ r. ⌜ r ≡ bitsCode a ⌝ }
-{
-    match a {
-        meter::Answer::Done => 0,
-        meter::Answer::Refused(r) => refusal::number(r),
-    }
-}
 
 // The layout's numbers.
 #[no_mangle]
@@ -89,7 +59,7 @@ pub extern "C" fn dimpstea_modulate(
     ensures { λ r. ⌜ ModulateCall bandwidth rec (sending (now (markers .entry)) (now (phasors .entry)) frames
         (now (payload .entry)) (now (draws .entry))) (now (rows .entry)) r (now (rows .exit)) ⌝ }
 {
-    sent_code(psk::modulate(
+    refusal::code(psk::modulate(
         bandwidth,
         rec,
         markers,
@@ -113,7 +83,7 @@ pub extern "C" fn dimpstea_nco_phase(
     ensures { λ r. ⌜ NcoPhaseCall bandwidth rec window (now (phases .entry)) (now (out .entry)) r (now (phases .exit))
         (now (out .exit)) ⌝ }
 {
-    window_code(nco::nco_phase(bandwidth, rec, window, phases, out))
+    refusal::code(nco::nco_phase(bandwidth, rec, window, phases, out))
 }
 
 // The samples of a window of places, and the phases after it.
@@ -133,7 +103,7 @@ pub extern "C" fn dimpstea_carrier_audio(
         (now (phases .entry)) (now (out .entry)) r (now (phases .exit)) (now (out .exit)) ⌝ }
 {
     let at = Place(place);
-    window_code(audio::carrier_audio(
+    refusal::code(audio::carrier_audio(
         bandwidth,
         rec,
         frames,
@@ -379,7 +349,7 @@ pub extern "C" fn dimpstea_payload_bits(
 ) -> u32
     ensures { λ r. ⌜ PayloadBitsCall bandwidth rec (now (soft .entry)) (now (out .entry)) r (now (out .exit)) ⌝ }
 {
-    bits_code(meter::payload_bits(bandwidth, rec, soft, out))
+    refusal::code(meter::payload_bits(bandwidth, rec, soft, out))
 }
 
 // The differing bits of a payload sent and a payload read.

@@ -11,14 +11,14 @@ use Rattle.refusal.specs.declared.Refusal.the-variants as no
 use Rattle.refusal.specs.declared.Fault.{Fault}
 use Rattle.refusal.specs.declared.Fault.the-variants.{Clear, Met}
 use Rattle.refusal.specs.Refusal.{numberOf}
-use Rattle.refusal.specs.Outcome.{Outcome, refused, answered, andThen, judged}
+use Rattle.refusal.specs.Outcome.{Outcome, refused, answered, andThen, judged, codeOf}
 use Rattle.level.specs.Level.{Level, levels, lookup, isBandwidth, isRecord, levelOf}
 use Rattle.level.specs.Layout.{layoutOf, chosen}
 use Rattle.hold.specs.declared.Release.{Release}
 use Rattle.hold.specs.declared.Release.the-variants.{NoRelease, Released}
 use Rattle.hold.specs.History.{Detection}
 use Rattle.hold.specs.Releases.{released}
-use Rattle.modem_c.specs.Calls.{codeOf, LentRelease, releaseAfter}
+use Rattle.modem_c.specs.Calls.{LentRelease, releaseAfter}
 use Rattle.modem_hosts.specs.CallLists.{Reply, handed}
 
 -- ---- what a host reads
@@ -47,6 +47,13 @@ number-positive no.Offer = omega arith
 number-positive no.NotInHand = omega arith
 number-positive no.DriftRows = omega arith
 number-positive no.Gain = omega arith
+number-positive no.PilotSum = omega arith
+number-positive no.Median = omega arith
+number-positive no.DrawState = omega arith
+number-positive no.DrawsSpent = omega arith
+number-positive no.AlphabetSize = omega arith
+number-positive no.StepSize = omega arith
+number-positive no.NoiseVariance = omega arith
 
 module _ (r : Reply) (ds : List Detection) where
   -- a refused call hands nothing over

@@ -3,12 +3,13 @@ use Prim.Native.Nat.{ℕ}
 use mathlib.Core.Path.{_≡_, refl, ap, ap₂, _∙_}
 use mathlib.Core.List.{List, [], _∷_}
 use lib.Ieee.{Float}
+use Rattle.refusal.specs.Outcome.{codeOf}
 use Rattle.rx.specs.declared.FeedAnswer.{FeedAnswer}
 use Rattle.rx.specs.declared.FeedAnswer.the-variants.{Accepted, Refused}
 use Rattle.rx.specs.Feed.{Given, outcome}
 use Rattle.modem.specs.Ideal.{verdict}
 use Rattle.modem.specs.Calls.{none, next, detections, answersOf}
-use Rattle.modem_c.specs.Calls.{codeOf, LentState, LentRelease, feedRelease, FeedCall}
+use Rattle.modem_c.specs.Calls.{LentState, LentRelease, feedRelease, FeedCall}
 use Rattle.modem_c.proofs.ReadBack.{fed-read}
 use Rattle.modem_hosts.specs.CallLists as list
 use Rattle.modem_hosts.specs.CallLists.{Reply, handed, handedOver, FedAs, FeedsRead}

@@ -2,12 +2,12 @@
 -- nothing.
 use mathlib.Core.Path.{ap, _∙_}
 use mathlib.Core.List.{map}
+use Rattle.refusal.specs.Outcome.{codeOf}
 use Rattle.reading.specs.Read.{Asked}
 use Rattle.psk.specs.Symbols.{Sending}
 use Rattle.modem.specs.Calls.{Session}
 use Rattle.modem.specs.Demand3.{SentFor, Demand3}
 use Rattle.modem.proofs.Demand3.{demand-3}
-use Rattle.modem_c.specs.Calls.{codeOf}
 use Rattle.modem_hosts.specs.CallLists.{stateSaid, FedAs}
 use Rattle.modem_hosts.specs.HostDemand3.{HostSession, HostSentFor, HostDemand3}
 use Rattle.modem_hosts.proofs.FeedLists.{feeds-read}

@@ -6,14 +6,14 @@ use mathlib.Core.List.{List, [], _∷_, map}
 use lib.ListN.{length}
 use borrow.Author.Tests.{eq-eqb, ne-eqb}
 use Rattle.refusal.specs.declared.Refusal.the-variants as no
-use Rattle.refusal.specs.Outcome.{done, after}
+use Rattle.refusal.specs.Outcome.{done, after, codeOf}
 use Rattle.hold.specs.declared.LoneAnswer.{LoneAnswer}
 use Rattle.hold.specs.declared.LoneAnswer.the-variants.{Refused, Answered}
 use Rattle.hold.specs.LoneOffer.{outcome}
 use Rattle.hold.specs.LoneCalls.{none, next, releasedBy, loneAnswers}
 use Rattle.hold.proofs.LoneHistory.{lone-history}
 use Rattle.modem_c.specs.Numbers.{holdNumbers, heldMetric}
-use Rattle.modem_c.specs.Calls.{codeOf, LentState, lentState, LentRelease, OfferCall}
+use Rattle.modem_c.specs.Calls.{LentState, lentState, LentRelease, OfferCall}
 use Rattle.modem_c.proofs.ReadBack.{offered-read}
 use Rattle.modem_hosts.specs.CallLists as list
 use Rattle.modem_hosts.specs.CallLists.{Reply, handed, handedOver, OfferGiven, offersSaid, holdSaid, OfferedAs}

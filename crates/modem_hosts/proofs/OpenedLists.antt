@@ -10,7 +10,7 @@ use lib.Ieee.{Float}
 use Rattle.refusal.specs.declared.Refusal.the-variants as no
 use Rattle.refusal.specs.declared.Fault.{Fault}
 use Rattle.refusal.specs.declared.Fault.the-variants.{Clear, Met}
-use Rattle.refusal.specs.Outcome.{Outcome, refused, answered, andThen, firstOf, firstFault, orElse, judged, after}
+use Rattle.refusal.specs.Outcome.{Outcome, refused, answered, andThen, firstOf, firstFault, orElse, judged, after, codeOf}
 use Rattle.level.specs.declared.Layout.{Layout}
 use Rattle.level.specs.Lengths.{memoryLength}
 use Rattle.level.specs.Layout.{chosen}
@@ -26,7 +26,7 @@ use Rattle.modem.specs.Follows.{OpenedAs, wrongMemoryVerdict}
 use Rattle.modem.proofs.Refused.{all-refused}
 use Rattle.modem.proofs.Opened.{opened-as, opened-follows, opened-rule}
 use Rattle.modem_c.specs.Numbers.{numbersOf, metricOf}
-use Rattle.modem_c.specs.Calls.{codeOf, LentState, lentState, LentRelease, feedRelease, lengthFault, openedInto}
+use Rattle.modem_c.specs.Calls.{LentState, lentState, LentRelease, feedRelease, lengthFault, openedInto}
 use Rattle.modem_c.specs.Calls.{OpenCall, FeedCall}
 use Rattle.modem_c.proofs.ReadBack.{opened-read}
 use Rattle.modem_hosts.specs.CallLists as list

@@ -9,12 +9,12 @@ use lib.ListN.{length}
 use lib.Ieee.{Float}
 use Rattle.refusal.specs.declared.Fault.{Fault}
 use Rattle.refusal.specs.declared.Fault.the-variants.{Clear, Met}
-use Rattle.refusal.specs.Outcome.{Outcome, refused, answered, andThen, judged}
+use Rattle.refusal.specs.Outcome.{Outcome, refused, answered, andThen, judged, codeOf}
 use Rattle.level.specs.declared.Layout.{Layout}
 use Rattle.level.specs.Layout.{chosen}
 use Rattle.dat.specs.Tables.{tableFault}
-use Rattle.psk.specs.declared.Sent.{Sent}
-use Rattle.psk.specs.declared.Sent.the-variants as sent
+use Rattle.refusal.specs.declared.Answer.{Answer}
+use Rattle.refusal.specs.declared.Answer.the-variants as sent
 use Rattle.psk.specs.Symbols.{Sending}
 use Rattle.psk.specs.Send.{Modulated}
 use Rattle.decode.specs.Steps.{gainOf}
@@ -22,7 +22,7 @@ use Rattle.state.specs.declared.State.{State}
 use Rattle.reading.specs.declared.Reading.{Reading}
 use Rattle.reading.specs.declared.ReadAnswer.the-variants as rd
 use Rattle.reading.specs.Read.{Asked, symbolsRead, readFault, readBegun, gainFault, readAccepted, readOutcome, ReadBy}
-use Rattle.modem_c.specs.Calls.{codeOf, sentCode, ModulateCall}
+use Rattle.modem_c.specs.Calls.{answerCode, ModulateCall}
 use Rattle.modem_c.specs.ReadingCalls.{readingNumbers, buffersWrong, shortResult, ReadCall}
 use Rattle.modem_hosts.proofs.Codes.{number-positive, Positive, judged-positive, chosen-positive, answers-zero}
 
@@ -31,7 +31,7 @@ module _ (hz rec : ℕ) (m : Sending) (rows rows′ : List Float) where
   pub sent-done : ModulateCall hz rec m rows 0 rows′ → Modulated hz rec m rows rows′ sent.Done
   sent-done c = go (c .answer) (c .meets) (c .code-is)
     where
-      go : (a : Sent) → Modulated hz rec m rows rows′ a → 0 ≡ sentCode a → Modulated hz rec m rows rows′ sent.Done
+      go : (a : Answer) → Modulated hz rec m rows rows′ a → 0 ≡ answerCode a → Modulated hz rec m rows rows′ sent.Done
       go sent.Done w e = w
       go (sent.Refused r) w e = absurd (omega (arith, number-positive r))
 

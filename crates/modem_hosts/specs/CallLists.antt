@@ -7,7 +7,7 @@ use mathlib.Core.Logic.{_↔_}
 use lib.Dec.{eqb}
 use lib.ListN.{length}
 use lib.Ieee.{Float}
-use Rattle.refusal.specs.Outcome.{answered}
+use Rattle.refusal.specs.Outcome.{answered, codeOf}
 use Rattle.level.specs.declared.Layout.{Layout}
 use Rattle.level.specs.Lengths.{memoryLength}
 use Rattle.level.specs.Layout.{chosen}
@@ -25,7 +25,7 @@ use Rattle.modem.specs.Ideal.{accepted, verdicts, offersOf}
 use Rattle.modem.specs.Calls.{Calls, detections, answersOf}
 use Rattle.modem.specs.Follows.{Follows, wrongMemoryVerdict}
 use Rattle.modem_c.specs.Numbers.{position, stateOf, holdAt}
-use Rattle.modem_c.specs.Calls.{codeOf, LentRelease, LentState, lentState, candidateOf}
+use Rattle.modem_c.specs.Calls.{LentRelease, LentState, lentState, candidateOf}
 use Rattle.modem_c.specs.Calls.{OpenCall, FeedCall, OfferCall}
 
 -- ---- what a host reads

@@ -3,7 +3,7 @@ use Prim.Native.Nat.{ℕ, _<_}
 use mathlib.Core.Path.{_≡_}
 use mathlib.Core.List.{List, List·Memᴰ, map}
 use lib.Ieee.{Float}
-use Rattle.refusal.specs.Outcome.{answered}
+use Rattle.refusal.specs.Outcome.{answered, codeOf}
 use Rattle.level.specs.declared.Layout.{Layout}
 use Rattle.level.specs.Layout.{chosen}
 use Rattle.psk.specs.Symbols.{Sending}
@@ -14,7 +14,7 @@ use Rattle.reading.specs.Read.{Asked}
 use Rattle.modem.specs.Ideal.{accepted, verdicts}
 use Rattle.modem.specs.Received.{receivedStep, ReadingFollows}
 use Rattle.modem.specs.FrameRead.{FrameRead}
-use Rattle.modem_c.specs.Calls.{codeOf, LentState, OpenCall, ModulateCall}
+use Rattle.modem_c.specs.Calls.{LentState, OpenCall, ModulateCall}
 use Rattle.modem_c.specs.ReadingCalls.{readingNumbers, ReadCall}
 use Rattle.modem_hosts.specs.CallLists.{Reply, codes, handedOver, FeedCalls, stateSaid}
 

@@ -10,7 +10,7 @@ use Rattle.refusal.specs.declared.Fault.the-variants.{Clear, Met}
 use Rattle.refusal.specs.Refusal.{numberOf}
 use Rattle.refusal.specs.Outcome.{Outcome, refused, answered, andThen, done, after, judged}
 use Rattle.level.specs.declared.Layout.{Layout}
-use Rattle.nco.specs.declared.Answer.the-variants.{Done, Refused}
+use Rattle.refusal.specs.declared.Answer.the-variants.{Done, Refused}
 use Rattle.nco.specs.Phase.{phasesAfter}
 use Rattle.nco.specs.WindowCall.{WindowCall}
 

@@ -13,7 +13,7 @@ use Rattle.refusal.specs.Any.{any}
 use Rattle.laws.specs.Tests.{inRange}
 use Rattle.level.specs.declared.Layout.{Layout}
 use Rattle.taps.specs.PhaseSteps.{tau}
-use Rattle.nco.specs.declared.Answer.{Answer}
+use Rattle.refusal.specs.declared.Answer.{Answer}
 use Rattle.nco.specs.Phase.{phasesAfter, phaseRows}
 use Rattle.nco.specs.WindowCall.{WindowCall}
 

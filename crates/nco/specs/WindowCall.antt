@@ -3,17 +3,10 @@ use Prim.Native.Nat.{ℕ}
 use mathlib.Core.Path.{_≡_}
 use mathlib.Core.List.{List}
 use lib.Ieee.{Float}
-use Rattle.refusal.specs.Refusal.{numberOf}
-use Rattle.refusal.specs.Outcome.{Outcome, refused, answered, done, after}
+use Rattle.refusal.specs.Outcome.{Outcome, answered, done, after, outcome}
 use Rattle.level.specs.declared.Layout.{Layout}
-use Rattle.nco.specs.declared.Answer.{Answer}
-use Rattle.nco.specs.declared.Answer.the-variants.{Done, Refused}
+use Rattle.refusal.specs.declared.Answer.{Answer}
 use Rattle.nco.specs.Phase.{phasesAfter}
-
--- the code's answer in 01's terms: it has no values
-abbrev pub outcome : Answer → Outcome Unit
-outcome Done = answered tt
-outcome (Refused r) = refused (numberOf r)
 
 -- `accepted` is the layout of a call that meets no fault, or its refusal; `out-of` is what out then holds
 pub record WindowCall (accepted : Outcome Layout) (window : ℕ) (phases out : List Float) (out-of : Layout → List Float)

@@ -12,14 +12,9 @@ ghost use Rattle.nco.specs.Phase.{carrierStep, phaseNext, phaseAfter, ph
 ghost use Rattle.nco.specs.Nco.{wrongPhases, ncoFault, NcoPhase};
 use level::Chosen;
 use level::Layout;
+use refusal::Answer;
 use refusal::Fault;
 use refusal::Refusal;
-
-// What a call that fills lent buffers answers.
-pub enum Answer {
-    Done,
-    Refused(Refusal),
-}
 
 // How far carrier c's phase steps from place to place.
 fn carrier_step(l: Layout, c: usize) -> f32

@@ -17,8 +17,8 @@ use Rattle.level.specs.Frames.{wrongFrames}
 use Rattle.level.specs.Layout.{chosen}
 use Rattle.level.specs.Lengths.{rowLength}
 use Rattle.dat.specs.Tables.{tableFault}
-use Rattle.psk.specs.declared.Sent.{Sent}
-use Rattle.psk.specs.declared.Sent.the-variants.{Done, Refused}
+use Rattle.refusal.specs.declared.Answer.{Answer}
+use Rattle.refusal.specs.declared.Answer.the-variants.{Done, Refused}
 use Rattle.psk.specs.Symbols.{Sending, rowsOf}
 
 -- bytes whose count is wrong, or one of which is not below the limit
@@ -65,7 +65,7 @@ unfoldable pub modulated : ℕ → ℕ → Sending → ℕ → Outcome (List Flo
 modulated hz rec m room = andThen (chosen hz rec) (λ l. sentIn l m room)
 
 -- the code's answer, with the rows that it leaves, in 01's terms
-abbrev pub outcome : Sent → List Float → Outcome (List Float)
+abbrev pub outcome : Answer → List Float → Outcome (List Float)
 outcome Done rows = answered rows
 outcome (Refused r) rows = refused (numberOf r)
 
@@ -75,13 +75,13 @@ contents (refused k) before = before
 contents (answered rows) before = rows
 
 -- an answer and the rows that it leaves are those of an outcome
-pub record Meets (o : Outcome (List Float)) (before after : List Float) (r : Sent) : Type 0 where
+pub record Meets (o : Outcome (List Float)) (before after : List Float) (r : Answer) : Type 0 where
   pub answer : outcome r after ≡ o
   pub rows : after ≡ contents o before
 
 -- a call in a layout, and one by bandwidth and record
-abbrev pub SentIn : Layout → Sending → List Float → List Float → Sent → Type 0
+abbrev pub SentIn : Layout → Sending → List Float → List Float → Answer → Type 0
 SentIn l m before after r = Meets (sentIn l m (length before)) before after r
 
-abbrev pub Modulated : ℕ → ℕ → Sending → List Float → List Float → Sent → Type 0
+abbrev pub Modulated : ℕ → ℕ → Sending → List Float → List Float → Answer → Type 0
 Modulated hz rec m before after r = Meets (modulated hz rec m (length before)) before after r

@@ -14,14 +14,9 @@ ghost use Rattle.psk.specs.Accepted.{Drawn, LeadReady, FrameReady, CellR
 use complex::Complex;
 use level::Chosen;
 use level::Layout;
+use refusal::Answer;
 use refusal::Fault;
 use refusal::Refusal;
-
-// What sending answers: the rows are written, or a refusal.
-pub enum Sent {
-    Done,
-    Refused(Refusal),
-}
 
 // A frame's running point on a carrier, and the place of the next cell's first bit.
 struct Running {
@@ -301,7 +296,7 @@ fn send(
     payload: &[u8],
     draws: &[u8],
     rows: &mut [f64],
-) -> Sent
+) -> Answer
     requires { ⌜ IsLayout l ⌝ }
     ensures { λ r. ⌜
         SentIn l (sending (now (markers .entry)) (now (phasors .entry)) frames (now (payload .entry))
@@ -310,10 +305,10 @@ fn send(
 {
     let fault = send_fault(l, markers, phasors, frames, payload, draws, rows.len());
     match fault {
-        Fault::Met(refusal) => Sent::Refused(refusal),
+        Fault::Met(refusal) => Answer::Refused(refusal),
         Fault::Clear => {
             put_rows(l, markers, phasors, frames, payload, draws, rows);
-            Sent::Done
+            Answer::Done
         }
     }
 }
@@ -328,7 +323,7 @@ pub fn modulate(
     payload: &[u8],
     draws: &[u8],
     rows: &mut [f64],
-) -> Sent
+) -> Answer
     ensures { λ r. ⌜
         Modulated bandwidth rec (sending (now (markers .entry)) (now (phasors .entry)) frames (now (payload .entry))
         (now (draws .entry))) (now (rows .entry)) (now (rows .exit)) r
@@ -336,7 +331,7 @@ pub fn modulate(
 {
     let chosen = level::choose(bandwidth, rec);
     match chosen {
-        Chosen::Refused(refusal) => Sent::Refused(refusal),
+        Chosen::Refused(refusal) => Answer::Refused(refusal),
         Chosen::Psk(l) => send(l, markers, phasors, frames as usize, payload, draws, rows),
     }
 }

@@ -6,7 +6,7 @@ ghost use Rattle.level.specs.Rows.{IsLayout};
 ghost use Rattle.replay_inputs.specs.Table.{entries, rowNumbers};
 use level::Chosen;
 use level::Layout;
-use psk::Sent;
+use refusal::Answer;
 
 // The book, then two frames as samples, with no noise and with noise.
 fn two_frames_in(
@@ -19,7 +19,7 @@ fn two_frames_in(
     rows: &mut [f64],
     clean: &mut [f64],
     noisy: &mut [f64],
-) -> Sent
+) -> Answer
     requires { ⌜ IsLayout l × (length (now book) ≡ 6000) × (length (now markers) ≡ entries l) × (length (now rows) ≡ rowNumbers l 2) × (length (now clean) ≤ 2 ^ 32) × (length (now noisy) ≤ 2 ^ 32) ⌝ }
 {
     replay_inputs::book(book);
@@ -37,7 +37,7 @@ pub fn two_frames(
     payload: &mut [u8],
     clean: &mut [f64],
     noisy: &mut [f64],
-) -> Sent
+) -> Answer
     requires { ⌜ (length (now book) ≡ 6000) × (length (now markers) ≡ 822) × (length (now clean) ≤ 2 ^ 32) × (length (now noisy) ≤ 2 ^ 32) ⌝ }
 {
     let mut draws = [0u8; 20];
@@ -55,7 +55,7 @@ pub fn two_frames(
             clean,
             noisy,
         ),
-        Chosen::Refused(f) => Sent::Refused(f),
+        Chosen::Refused(f) => Answer::Refused(f),
     }
 }
 
@@ -69,7 +69,7 @@ fn one_frame_in(
     draws: &mut [u8],
     rows: &mut [f64],
     clean: &mut [f64],
-) -> Sent
+) -> Answer
     requires { ⌜ IsLayout l × (length (now book) ≡ 6000) × (length (now markers) ≡ entries l) × (length (now rows) ≡ rowNumbers l 1) × (length (now clean) ≤ 2 ^ 32) ⌝ }
 {
     replay_inputs::book(book);
@@ -85,7 +85,7 @@ pub fn one_frame(
     phasors: &mut [f64],
     payload: &mut [u8],
     clean: &mut [f64],
-) -> Sent
+) -> Answer
     requires { ⌜ (length (now book) ≡ 6000) × (length (now markers) ≡ 1161) × (length (now clean) ≤ 2 ^ 32) ⌝ }
 {
     let mut draws = [0u8; 27];
@@ -102,6 +102,6 @@ pub fn one_frame(
             &mut rows,
             clean,
         ),
-        Chosen::Refused(f) => Sent::Refused(f),
+        Chosen::Refused(f) => Answer::Refused(f),
     }
 }

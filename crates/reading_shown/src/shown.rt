@@ -2,11 +2,11 @@
 use complex::Complex;
 use libc::STDOUT_FILENO;
 use locate::Located;
-use meter::Answer;
 use meter::Metered;
 use reading::LocateAnswer;
 use reading::ReadAnswer;
 use reading::Reading;
+use refusal::Answer;
 use refusal::Position;
 use refusal::Refusal;
 use rx::State;

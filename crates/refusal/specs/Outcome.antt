@@ -3,6 +3,8 @@ use mathlib.Core.Bool.{Bool, true, false}
 use mathlib.Core.List.{List, [], _∷_}
 use Prim.Native.Nat.{ℕ}
 use Rattle.refusal.specs.declared.Refusal.{Refusal}
+use Rattle.refusal.specs.declared.Answer.{Answer}
+use Rattle.refusal.specs.declared.Answer.the-variants.{Done, Refused}
 use Rattle.refusal.specs.declared.Fault.{Fault}
 use Rattle.refusal.specs.declared.Fault.the-variants.{Clear, Met}
 use Rattle.refusal.specs.Refusal.{numberOf}
@@ -11,6 +13,16 @@ use Rattle.refusal.specs.Refusal.{numberOf}
 pub data Outcome (A : Type 0) : Type 0 where
   refused : ℕ → Outcome A
   answered : A → Outcome A
+
+-- the code's answer in these terms, where it has no values
+abbrev pub outcome : Answer → Outcome Unit
+outcome Done = answered tt
+outcome (Refused r) = refused (numberOf r)
+
+-- an outcome as a number: 0, or the number of the first condition met
+abbrev pub codeOf : {A : Type 0} → Outcome A → ℕ
+codeOf (refused k) = k
+codeOf (answered a) = 0
 
 -- a refusal stands; an answer goes on
 abbrev pub andThen : {A B : Type 0} → Outcome A → (A → Outcome B) → Outcome B

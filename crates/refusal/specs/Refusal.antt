@@ -1,11 +1,13 @@
--- The numbered conditions of 01, "Where each fault is met". Definitions only.
+-- The numbered conditions of 01, "Where each fault is met", and of document 02. Definitions only.
 use Prim.Native.Nat.{ℕ}
 use Rattle.refusal.specs.declared.Refusal.{Refusal}
 use Rattle.refusal.specs.declared.Refusal.the-variants.{Level, NotPsk, MarkerLength, MarkerValue, MarkerFlag}
 use Rattle.refusal.specs.declared.Refusal.the-variants.{PhasorCount, PhasorSize, Frames, Payload, Draws, Buffer}
 use Rattle.refusal.specs.declared.Refusal.the-variants.{Symbols, Window, Waves, Start, TurnBook, State}
 use Rattle.refusal.specs.declared.Refusal.the-variants.{SampleCount, SampleNumber, SampleSize, Offer, NotInHand}
-use Rattle.refusal.specs.declared.Refusal.the-variants.{DriftRows, Gain}
+use Rattle.refusal.specs.declared.Refusal.the-variants.{DriftRows, Gain, PilotSum, Median}
+use Rattle.refusal.specs.declared.Refusal.the-variants.{DrawState, DrawsSpent, AlphabetSize, StepSize}
+use Rattle.refusal.specs.declared.Refusal.the-variants.{NoiseVariance}
 
 -- each condition's number, with the condition in short
 abbrev pub numberOf : Refusal → ℕ
@@ -33,3 +35,10 @@ numberOf Offer = 21  -- hold, dead, offered or held position, or a metric
 numberOf NotInHand = 22  -- the frame at t0 isn't whole in the tracks
 numberOf DriftRows = 23  -- drift row length or part outside -1 to 1
 numberOf Gain = 24  -- g not finite and above 0
+numberOf PilotSum = 25  -- a pilot sum's truncated parts both zero, or a part not finite or above 64 in size
+numberOf Median = 26  -- a median not from 0 to 2, or M is 0
+numberOf DrawState = 29  -- a generator's state above 24 bits, or a draw limit outside 1 to 4,096
+numberOf DrawsSpent = 30  -- a row's draws spent with markers still missing
+numberOf AlphabetSize = 31  -- a size other than 2, 4, 8, 16 or 32
+numberOf StepSize = 32  -- a step part not finite or above 2^20 in size
+numberOf NoiseVariance = 33  -- an nvar not finite or outside 0.001 to 2^60

@@ -1,6 +1,8 @@
-// The refusals of document 01, "Where each fault is met", and the two counts of samples that the modem carries.
+// The refusals of document 01, "Where each fault is met", and of document 02, and the two counts of samples that the
+// modem carries.
 ghost use mathlib.Core.Path.{_≡_};
 ghost use Rattle.refusal.specs.Refusal.{numberOf};
+ghost use Rattle.refusal.specs.Outcome.{codeOf, outcome};
 
 // A place in the 3 kHz signal, in samples.
 pub struct Position(pub u64);
@@ -34,6 +36,19 @@ pub enum Refusal {
     NotInHand,
     DriftRows,
     Gain,
+    PilotSum,
+    Median,
+    DrawState,
+    DrawsSpent,
+    AlphabetSize,
+    StepSize,
+    NoiseVariance,
+}
+
+// What a call answers that writes its results into what it was lent.
+pub enum Answer {
+    Done,
+    Refused(Refusal),
 }
 
 // What a check of inputs finds: no fault, or the first one.
@@ -42,7 +57,7 @@ pub enum Fault {
     Met(Refusal),
 }
 
-// The refusal's number in document 01.
+// The refusal's number in the documents.
 pub fn number(r: Refusal) -> u32
     ensures { λ n. ⌜ n ≡ numberOf r ⌝ }
 {
@@ -71,5 +86,22 @@ pub fn number(r: Refusal) -> u32
         Refusal::NotInHand => 22,
         Refusal::DriftRows => 23,
         Refusal::Gain => 24,
+        Refusal::PilotSum => 25,
+        Refusal::Median => 26,
+        Refusal::DrawState => 29,
+        Refusal::DrawsSpent => 30,
+        Refusal::AlphabetSize => 31,
+        Refusal::StepSize => 32,
+        Refusal::NoiseVariance => 33,
+    }
+}
+
+// An answer as a number: 0, or the refusal's.
+pub fn code(a: Answer) -> u32
+    ensures { λ n. ⌜ n ≡ codeOf (outcome a) ⌝ }
+{
+    match a {
+        Answer::Done => 0,
+        Answer::Refused(r) => number(r),
     }
 }

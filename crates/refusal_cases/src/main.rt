@@ -7,8 +7,8 @@ use hold::LoneAnswer;
 use level::Chosen;
 use libc::STDOUT_FILENO;
 use meter::Metered;
-use nco::Answer;
-use psk::Sent;
+use refusal::Answer;
+use refusal::Answer;
 use refusal::Place;
 use refusal::Position;
 use rx::OpenAnswer;
@@ -62,8 +62,8 @@ fn payloads() {
 fn try_modulate(bandwidth: u32, rec: u32, markers: &[u16], rows: &mut [f64]) {
     let r = psk::modulate(bandwidth, rec, markers, &[], 1, &[], &[], rows);
     match r {
-        Sent::Done => show(0),
-        Sent::Refused(f) => show(refusal::number(f)),
+        Answer::Done => show(0),
+        Answer::Refused(f) => show(refusal::number(f)),
     }
 }
 
@@ -79,8 +79,8 @@ fn try_send(
     let phasors = [phasor; 1572];
     let r = psk::modulate(500, 4, markers, &phasors, frames, payload, draws, rows);
     match r {
-        Sent::Done => show(0),
-        Sent::Refused(f) => show(refusal::number(f)),
+        Answer::Done => show(0),
+        Answer::Refused(f) => show(refusal::number(f)),
     }
 }
 

@@ -8,7 +8,7 @@ mod kept;
 
 use hold::Held;
 use libc::STDOUT_FILENO;
-use psk::Sent;
+use refusal::Answer;
 use refusal::Position;
 use rx::FeedAnswer;
 use rx::OpenAnswer;
@@ -194,7 +194,7 @@ fn main() {
     let mut memory = [0.0; 522816];
     let sent = replay_inputs::two_frames(&mut book, &mut markers, &mut phasors, &mut signal);
     refusals(&markers, &phasors, &book, &mut memory, &signal);
-    if let Sent::Refused(_) = sent {
+    if let Answer::Refused(_) = sent {
         io::write_all(STDOUT_FILENO, b"not sent\n");
     }
 }

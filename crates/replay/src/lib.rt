@@ -3,7 +3,7 @@ ghost use mathlib.Core.Path.{_≡_};
 ghost use lib.ListN.{length};
 use level::Chosen;
 use libc::STDOUT_FILENO;
-use psk::Sent;
+use refusal::Answer;
 use refusal::Refusal;
 
 pub fn end_line() {
@@ -39,10 +39,10 @@ pub fn show_detection(position: u64, metric_bits: u64) {
 }
 
 // A line where sending was refused.
-pub fn show_unsent(sent: Sent) {
+pub fn show_unsent(sent: Answer) {
     match sent {
-        Sent::Done => {}
-        Sent::Refused(r) => show_refusal(r),
+        Answer::Done => {}
+        Answer::Refused(r) => show_refusal(r),
     }
 }
 

@@ -4,7 +4,7 @@ ghost use Prim.Native.Nat.{_*_, _≤_};
 ghost use lib.ListN.{length};
 ghost use Rattle.replay_audio.specs.Within.{Within};
 use libc::STDOUT_FILENO;
-use nco::Answer;
+use refusal::Answer;
 use refusal::Place;
 
 // A window from place 4,000 × `lead` on, of whose samples the last `shown` are printed.

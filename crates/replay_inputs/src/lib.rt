@@ -9,7 +9,7 @@ ghost use Rattle.replay_inputs.specs.Table.{entries, rowNumbers};
 use complex::Complex;
 use level::Chosen;
 use level::Layout;
-use psk::Sent;
+use refusal::Answer;
 
 // The generator's next state, modulo 2^64: the product by halves of 32 bits.
 pub fn next(x: u64) -> u64
@@ -220,7 +220,7 @@ pub fn clean(l: Layout, rows: &[f64], frames: usize, book: &[f64], lead: usize, 
 
 // What sending drawn bits comes to, and the generator's state after the draws.
 pub struct Sending {
-    pub sent: Sent,
+    pub sent: Answer,
     pub state: u64,
 }
 
@@ -265,7 +265,7 @@ fn two_frames_in(
     draws: &mut [u8],
     rows: &mut [f64],
     out: &mut [f64],
-) -> Sent
+) -> Answer
     requires { ⌜ IsLayout l × (length (now turns) ≡ 6000) × (length (now marks) ≡ entries l) × (length (now rows) ≡ rowNumbers l 2) × (length (now out) ≤ 2 ^ 32) ⌝ }
 {
     book(turns);
@@ -275,7 +275,12 @@ fn two_frames_in(
 }
 
 // Two frames in the layout 500/4, from seed 1 on: the turn book, the marker table, the phasors, then payload, draws and signal.
-pub fn two_frames(turns: &mut [f64], marks: &mut [u16], turned: &mut [f64], out: &mut [f64]) -> Sent
+pub fn two_frames(
+    turns: &mut [f64],
+    marks: &mut [u16],
+    turned: &mut [f64],
+    out: &mut [f64],
+) -> Answer
     requires { ⌜ (length (now turns) ≡ 6000) × (length (now marks) ≡ 822) × (length (now out) ≤ 2 ^ 32) ⌝ }
 {
     let mut payload = [0u8; 1496];
@@ -293,7 +298,7 @@ pub fn two_frames(turns: &mut [f64], marks: &mut [u16], turned: &mut [f64], out:
             &mut rows,
             out,
         ),
-        Chosen::Refused(f) => Sent::Refused(f),
+        Chosen::Refused(f) => Answer::Refused(f),
     }
 }
 
@@ -303,7 +308,7 @@ pub fn two_frames_500_6(
     marks: &mut [u16],
     turned: &mut [f64],
     out: &mut [f64],
-) -> Sent
+) -> Answer
     requires { ⌜ (length (now turns) ≡ 6000) × (length (now marks) ≡ 1161) × (length (now out) ≤ 2 ^ 32) ⌝ }
 {
     let mut payload = [0u8; 4344];
@@ -321,7 +326,7 @@ pub fn two_frames_500_6(
             &mut rows,
             out,
         ),
-        Chosen::Refused(f) => Sent::Refused(f),
+        Chosen::Refused(f) => Answer::Refused(f),
     }
 }
 

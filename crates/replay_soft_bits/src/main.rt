@@ -13,8 +13,8 @@ mod frame;
 use level::Chosen;
 use level::Layout;
 use libc::STDOUT_FILENO;
-use psk::Sent;
 use reading_shown::shown;
+use refusal::Answer;
 use refusal::Fault;
 
 // From the symbols in the scratch on, as `reading::read` does, for a mean norm that 24 lets through.
@@ -69,7 +69,7 @@ fn send(
     draws: &mut [u8],
     rows: &mut [f64],
     signal: &mut [f64],
-) -> Sent
+) -> Answer
     requires { ⌜ IsLayout l × (length (now book) ≡ 6000) × (length (now markers) ≡ entries l)
         × (length (now rows) ≡ rowNumbers l 1) × (length (now signal) ≤ 2 ^ 32) ⌝ }
 {

@@ -8,7 +8,7 @@ use Rattle.refusal.specs.Outcome.{Outcome, answered}
 use Rattle.level.specs.declared.Layout.{Layout}
 use Rattle.level.specs.Layout.{outcome}
 use Rattle.level.specs.RowLaws.{is-layout}
-use Rattle.nco.specs.declared.Answer.{Answer}
+use Rattle.refusal.specs.declared.Answer.{Answer}
 use Rattle.nco.proofs.WindowCallLaws.{call-refused}
 use Rattle.audio.specs.CarrierAudio.{audioAccepted, CarrierAudio}
 use Rattle.audio.proofs.carrier_audio.Statement.{statement}

@@ -7,7 +7,7 @@ use lib.Ieee.{Float}
 use Rattle.refusal.specs.Outcome.{Outcome, answered}
 use Rattle.level.specs.declared.Layout.{Layout}
 use Rattle.level.specs.Layout.{outcome}
-use Rattle.meter.specs.declared.Answer.{Answer}
+use Rattle.refusal.specs.declared.Answer.{Answer}
 use Rattle.meter.specs.PayloadBits.{bitsAccepted, PayloadBits}
 use Rattle.meter.proofs.PayloadBitsLaws.{bits-refused}
 use Rattle.meter.proofs.payload_bits.Statement.{statement}

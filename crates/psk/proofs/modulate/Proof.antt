@@ -13,8 +13,8 @@ use Rattle.level.specs.declared.Chosen.the-variants.{Psk}
 use Rattle.level.specs.declared.Chosen.the-variants as Level
 use Rattle.level.specs.Layout.{chosen, outcome}
 use Rattle.level.specs.RowLaws.{is-layout}
-use Rattle.psk.specs.declared.Sent.{Sent}
-use Rattle.psk.specs.declared.Sent.the-variants.{Refused}
+use Rattle.refusal.specs.declared.Answer.{Answer}
+use Rattle.refusal.specs.declared.Answer.the-variants.{Refused}
 use Rattle.psk.specs.Symbols.{Sending}
 use Rattle.psk.specs.Send.{sentIn, modulated, contents, SentIn, Modulated}
 use Rattle.psk.proofs.modulate.Statement.{statement}
@@ -28,7 +28,7 @@ module _ (hz rec : ℕ) (m : Sending) (xs : List Float) (k : Chosen) (e : outcom
   refuses : (r : Refusal) → k ≡ Level.Refused r → Modulated hz rec m xs xs (Refused r)
   refuses r h = record { answer = sym (comes (Level.Refused r) h); rows = sym (ap (λ (o : Outcome (List Float)). contents o xs) (comes (Level.Refused r) h)) }
 
-  sends : (l : Layout) → k ≡ Psk l → (ys : List Float) (r : Sent) → SentIn l m xs ys r → Modulated hz rec m xs ys r
+  sends : (l : Layout) → k ≡ Psk l → (ys : List Float) (r : Answer) → SentIn l m xs ys r → Modulated hz rec m xs ys r
   sends l h ys r s =
       record { answer = s .answer ∙ sym (comes (Psk l) h); rows = s .rows ∙ sym (ap (λ (o : Outcome (List Float)). contents o xs) (comes (Psk l) h)) }
 

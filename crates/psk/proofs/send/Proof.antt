@@ -9,7 +9,7 @@ use Rattle.refusal.specs.declared.Fault.{Fault}
 use Rattle.refusal.specs.declared.Fault.the-variants.{Clear, Met}
 use Rattle.refusal.specs.Outcome.{Outcome, answered, judged}
 use Rattle.level.specs.declared.Layout.{Layout}
-use Rattle.psk.specs.declared.Sent.the-variants.{Done, Refused}
+use Rattle.refusal.specs.declared.Answer.the-variants.{Done, Refused}
 use Rattle.psk.specs.Symbols.{Sending, rowsOf}
 use Rattle.psk.specs.Send.{sendFault, sentIn, contents, SentIn}
 use Rattle.psk.proofs.AcceptedLaws.{ready-of}

@@ -1,7 +1,7 @@
--- `modem_c::sent_code` meets its contract: 0, or the number of the refusal. Assumes nothing.
+-- `refusal::code` meets its contract: 0, or the number of the refusal. Assumes nothing.
 use borrow.Author.Needs.{needs}
-use Rattle.modem_c.proofs.sent_code.Statement.{statement}
-use Rattle.modem_c.proofs.sent_code.Tie as tie
+use Rattle.refusal.proofs.code.Statement.{statement}
+use Rattle.refusal.proofs.code.Tie as tie
 
 enum-told : tie.Need-enum-told
 enum-told c = search needs
@@ -18,5 +18,5 @@ returns c = search needs
 returns-2 : tie.Need-returns-2
 returns-2 c = rw (c .before .before .a .given .1) (c .number .ensures)
 
-pub sent-code-spec : {M : Type 1} → statement M
-sent-code-spec = tie.close (tie.spec enum-told enum-known-a number-requires returns returns-2)
+pub code-spec : {M : Type 1} → statement M
+code-spec = tie.close (tie.spec enum-told enum-known-a number-requires returns returns-2)
