@@ -8,7 +8,8 @@ use native.Mathlib.Nat.{le-trans, min-le-left, min-le-right, mul-le-mul-left, mu
 use native.Mathlib.Nat.{le-div-iff-mul-le, suc-mul}
 use native.Mathlib.Omega.{arith}
 use lib.ListN.{length, getD}
-use Rattle.complex.specs.ListLaws.{length-tabulate}
+use Rattle.complex.specs.Lists.{Each}
+use Rattle.complex.specs.ListLaws.{length-tabulate, each-append, each-map, each-tabulate, each-at}
 use Rattle.level.specs.declared.Layout.{Layout}
 use Rattle.level.specs.Layout.{stagger}
 use Rattle.level.specs.Lengths.{cells, memoryLength}
@@ -24,7 +25,6 @@ use Rattle.dat.specs.SelectLaws.{thin-is, thin-in}
 use Rattle.track.specs.Memory.{partLength}
 use Rattle.chi.specs.declared.Sum.{Sum}
 use Rattle.chi.specs.declared.Sum.the-variants.{Pilot, Data}
-use Rattle.chi.specs.Each.{Each, each-append, each-map, each-tabulate, each-at}
 use Rattle.chi.specs.Table.{symbolsOf, perCarrier, cellsIn, partOf, placeOf, Row}
 
 -- ---- how many

@@ -1,4 +1,3 @@
-pub mod Each
 pub mod Table
 pub mod Cells
 pub mod Dot

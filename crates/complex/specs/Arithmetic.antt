@@ -36,8 +36,8 @@ unfoldable pub cscale : Complex → Float → Complex
 cscale z t = cx (Ieee.mul binary64 (z .re) t) (Ieee.mul binary64 (z .im) t)
 
 -- "Division by a real: part by part."
-unfoldable pub cdiv : Complex → Float → Complex
-cdiv z t = cx (Ieee.div binary64 (z .re) t) (Ieee.div binary64 (z .im) t)
+unfoldable pub cunscale : Complex → Float → Complex
+cunscale z t = cx (Ieee.div binary64 (z .re) t) (Ieee.div binary64 (z .im) t)
 
 -- re·re + im·im as rounded
 unfoldable pub normSqr : Complex → Float

@@ -1,14 +1,14 @@
 -- What loops cite of such lists. Assumes nothing.
 use Prim.Native.Nat.{ℕ, zero, suc, _+_, _<_, _≤_}
 use mathlib.Core.Path.{_≡_, refl, sym, _∙_}
-use mathlib.Core.List.{List, [], _∷_, append-assoc, append-nil}
+use mathlib.Core.List.{List, [], _∷_, _++_, map, append-assoc, append-nil}
 use mathlib.Core.Logic.{⊎-elim}
 use native.Mathlib.Omega.{arith}
 use native.Mathlib.Nat.{eq-or-lt-of-le, le-of-suc-le-suc}
 use native.Mathlib.Numerals.{add-one}
 use lib.ListN.{length, getD, drop, set, length-append, length-drop, List·getD-append}
 use lib.Seq.{drop-cons, drop-length, set-at, getD-at, ext-getD}
-use Rattle.complex.specs.Lists.{tabulate, filled}
+use Rattle.complex.specs.Lists.{tabulate, filled, Each}
 
 pub length-tabulate {ℓ} : {A : Type ℓ} (f : ℕ → A) (n : ℕ) → length (tabulate f n) ≡ n
 unfolding tabulate
@@ -73,3 +73,36 @@ pub getD-default {ℓ} : {A : Type ℓ} (xs : List A) (k : ℕ) (d e : A) → k 
 getD-default [] k d e h = absurd (omega arith)
 getD-default (x ∷ xs) zero d e h = refl
 getD-default (x ∷ xs) (suc k) d e h = getD-default xs k d e (le-of-suc-le-suc h)
+
+-- ---- what holds of each entry
+pub each-append : {A : Type 0} (P : A → Type 0) (xs ys : List A) → Each P xs → Each P ys → Each P (xs ++ ys)
+each-append P [] ys u v = v
+each-append P (x ∷ xs) ys u v = (u .0, each-append P xs ys (u .1) v)
+
+pub each-map : {A B : Type 0} (P : A → Type 0) (Q : B → Type 0) (f : A → B) → ((x : A) → P x → Q (f x))
+    → (xs : List A) → Each P xs → Each Q (map f xs)
+each-map P Q f h [] u = tt
+each-map P Q f h (x ∷ xs) u = (h x (u .0), each-map P Q f h xs (u .1))
+
+pub each-tabulate : {A : Type 0} (P : A → Type 0) (f : ℕ → A) (n : ℕ) → ((k : ℕ) → k < n → P (f k))
+    → Each P (tabulate f n)
+unfolding tabulate
+each-tabulate P f zero h = tt
+each-tabulate P f (suc n) h = each-append P (tabulate f n) (f n ∷ []) (each-tabulate P f n (λ k l. h k (omega arith)))
+    (h n (omega arith), tt)
+
+pub each-at : {A : Type 0} (P : A → Type 0) (xs : List A) (k : ℕ) (d : A) → Each P xs → k < length xs → P (getD xs k d)
+each-at P [] k d u h = absurd (omega arith)
+each-at P (x ∷ xs) zero d u h = u .0
+each-at P (x ∷ xs) (suc k) d u h = each-at P xs k d (u .1) (le-of-suc-le-suc h)
+
+-- what P implies
+pub each-implies : {A : Type 0} (P Q : A → Type 0) → ((x : A) → P x → Q x) → (xs : List A) → Each P xs → Each Q xs
+each-implies P Q f [] u = tt
+each-implies P Q f (x ∷ xs) u = (f x (u .0), each-implies P Q f xs (u .1))
+
+-- an entry, or the default
+pub each-or : {A : Type 0} (P : A → Type 0) (xs : List A) (d : A) → P d → Each P xs → (k : ℕ) → P (getD xs k d)
+each-or P [] d h u k = h
+each-or P (x ∷ xs) d h u zero = u .0
+each-or P (x ∷ xs) d h u (suc k) = each-or P xs d h (u .1) k

@@ -11,3 +11,8 @@ tabulate f (suc n) = tabulate f n ++ (f n ∷ [])
 -- the list with its first n entries replaced by f's
 unfoldable pub filled {ℓ} : {A : Type ℓ} → (ℕ → A) → ℕ → List A → List A
 filled f n l = tabulate f n ++ drop n l
+
+-- P holds of each entry
+abbrev pub Each : {A : Type 0} → (A → Type 0) → List A → Type 0
+Each P [] = Unit {0}
+Each P (x ∷ xs) = P x × Each P xs

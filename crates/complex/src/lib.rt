@@ -4,7 +4,7 @@ ghost use mathlib.Core.Path.{_≡_};
 ghost use Prim.Native.Nat.{_+_, _*_, _<_};
 ghost use lib.ListN.{length};
 ghost use lib.Ieee.{Float};
-ghost use Rattle.complex.specs.Arithmetic.{czero, cadd, cmul, cscale, cdiv, cconj, normSqr, cpow};
+ghost use Rattle.complex.specs.Arithmetic.{czero, cadd, cmul, cscale, cunscale, cconj, normSqr, cpow};
 ghost use Rattle.complex.specs.Pairs.{cget, cset};
 
 pub struct Complex {
@@ -55,7 +55,7 @@ pub fn scale(z: Complex, t: f64) -> Complex
 }
 
 pub fn unscale(z: Complex, t: f64) -> Complex
-    ensures { λ r. ⌜ r ≡ cdiv z t ⌝ }
+    ensures { λ r. ⌜ r ≡ cunscale z t ⌝ }
 {
     Complex {
         re: z.re / t,

@@ -62,16 +62,16 @@ unfoldable pub wrongCount : Layout → List Float → Bool
 wrongCount l phasors = not (eqb (length phasors) (2 * (l .nc * l .nsym)))
 
 -- 0.99 and 1.01, each the nearest f64
-abbrev pub low : Float
-low = ofBits binary64 0x3fef_ae14_7ae1_47ae
+abbrev pub leastSquare : Float
+leastSquare = ofBits binary64 0x3fef_ae14_7ae1_47ae
 
-abbrev pub high : Float
-high = ofBits binary64 0x3ff0_28f5_c28f_5c29
+abbrev pub greatestSquare : Float
+greatestSquare = ofBits binary64 0x3ff0_28f5_c28f_5c29
 
 -- a phasor with a "part not finite, or re² + im² outside 0.99 to 1.01"
 unfoldable pub badPhasor : Complex → Bool
 unfolding normSqr inRange
-badPhasor z = not (finite (z .re)) || not (finite (z .im)) || not (inRange low high (normSqr z))
+badPhasor z = not (finite (z .re)) || not (finite (z .im)) || not (inRange leastSquare greatestSquare (normSqr z))
 
 -- 7: "part not finite, or re² + im² outside 0.99 to 1.01"
 unfoldable pub wrongSize : Layout → List Float → Bool

@@ -7,7 +7,7 @@ use lib.Dec.{ltb}
 use lib.ListN.{length, getD}
 use lib.Ieee.{Float}
 use Rattle.complex.specs.declared.Complex.{Complex}
-use Rattle.complex.specs.Arithmetic.{czero, cmul, cconj, cdiv}
+use Rattle.complex.specs.Arithmetic.{czero, cmul, cconj, cunscale}
 use Rattle.complex.specs.Sums.{sumTo}
 use Rattle.complex.specs.Lists.{tabulate}
 use Rattle.complex.specs.Pairs.{parts}
@@ -63,7 +63,7 @@ gainOf l table z = meanNorm (undivided l table z) (stepCount l)
 
 -- "division by g"
 unfoldable pub divided : Layout → List ℕ → List Complex → ℕ → Complex
-divided l table z k = cdiv (undivided l table z k) (gainOf l table z)
+divided l table z k = cunscale (undivided l table z k) (gainOf l table z)
 
 -- "The received step is the divided step.": the one into symbol s of carrier c
 unfoldable pub receivedIn : Layout → List ℕ → List Complex → ℕ → ℕ → Complex

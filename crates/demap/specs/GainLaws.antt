@@ -19,7 +19,7 @@ use lib.Ieee.Back.{round-whole}
 use lib.Ieee.Scale.{finite}
 use lib.Ieee.Positive.{num, den, den-pos, through, positive}
 use Rattle.complex.specs.declared.Complex.{Complex}
-use Rattle.complex.specs.Arithmetic.{fzero, cdiv, normSqr}
+use Rattle.complex.specs.Arithmetic.{fzero, cunscale, normSqr}
 use Rattle.laws.specs.Sign.{signed-of, round-signed}
 use Rattle.laws.specs.Floats.{Signed, signOf, plain, Within}
 use Rattle.laws.specs.Plain.{plain-finite, plain-signed, finite-plain, positive-plain, positive-num, value-plain}
@@ -31,7 +31,7 @@ use Rattle.root.specs.Root.{normOf, sqrtOf}
 use Rattle.root.specs.RootFacts.{sqrt-zero, sqrt-square}
 use Rattle.root.specs.NormLaws.{norm-sqr-finite, norm-sqr-fits, norm-finite, norm-plain, norm-fits}
 use Rattle.demap.specs.Gain.{sumOfNorms, meanNorm}
-use Rattle.demap.specs.SignLaw.{Near}
+use Rattle.demap.specs.SignLaw.{PartsWithin}
 
 -- ---- numbers
 square-le : (a b : ℕ) → a * a ≤ b * b → a ≤ b
@@ -324,8 +324,8 @@ part-within S g p n k K N G F h l =
 -- k
 pub gain-bounds : (u : ℕ → Complex) (n k : ℕ) → 0 < n → n ≤ 2 ^ prec binary64 → 8 * n ≤ 2 ^ k → k ≤ emax binary64
     → T (positive (meanNorm u n))
-    → (i : ℕ) → i < n → Near (cdiv (u i) (meanNorm u n)) k
-unfolding meanNorm cdiv
+    → (i : ℕ) → i < n → PartsWithin (cunscale (u i) (meanNorm u n)) k
+unfolding meanNorm cunscale
 gain-bounds u n k N M E K G i I =
     let S = sumOfNorms u n in
     let c = ofInt binary64 (pos n) in
@@ -343,15 +343,15 @@ gain-bounds u n k N M E K G i I =
 
 -- the layouts have at most 5,000 steps: 2 ^ 16
 pub gain-within : (u : ℕ → Complex) (n : ℕ) → 0 < n → n ≤ 5000 → T (positive (meanNorm u n)) → (i : ℕ) → i < n
-    → Near (cdiv (u i) (meanNorm u n)) 16
+    → PartsWithin (cunscale (u i) (meanNorm u n)) 16
 gain-within u n N M G =
     gain-bounds u n 16 N (le-trans M (lit≤ tt)) (le-trans (mul-le-mul-left 8 M) (lit≤ tt)) (lit≤ tt) G
 
 -- as the sign law asks it
 pub gain-near : (u : ℕ → Complex) (n : ℕ) → 0 < n → n ≤ 5000 → T (positive (meanNorm u n)) → (i : ℕ) → i < n
-    → Near (cdiv (u i) (meanNorm u n)) 500
+    → PartsWithin (cunscale (u i) (meanNorm u n)) 500
 gain-near u n N M G i I =
-    let z = cdiv (u i) (meanNorm u n) in
+    let z = cunscale (u i) (meanNorm u n) in
     let b = gain-within u n N M G i I in
     (within-mono (z .re) 16 500 (lit≤ tt) (b .0), within-mono (z .im) 16 500 (lit≤ tt) (b .1))
 

@@ -17,7 +17,7 @@ use Rattle.laws.specs.Floats.{plain}
 use Rattle.laws.specs.Size.{sub-within}
 use Rattle.root.specs.NormLaws.{norm-sqr-plain, norm-sqr-fits}
 use Rattle.demap.specs.declared.Closest.{Closest}
-use Rattle.demap.specs.SignLaw.{Near}
+use Rattle.demap.specs.SignLaw.{PartsWithin}
 use Rattle.demap.specs.Nearest.{distSqr, closest, nearestOf}
 
 -- ---- distances
@@ -26,7 +26,7 @@ unfolding distSqr
 dist-fits z c = norm-sqr-fits (cx (sub binary64 (z .re) (c .re)) (sub binary64 (z .im) (c .im)))
 
 -- the distance of two complex numbers with parts of at most 2 ^ 510 is finite, with a clear sign
-pub dist-plain : (z c : Complex) (k : ℕ) → k ≤ 510 → Near z k → Near c k → T (plain (distSqr z c))
+pub dist-plain : (z c : Complex) (k : ℕ) → k ≤ 510 → PartsWithin z k → PartsWithin c k → T (plain (distSqr z c))
 unfolding distSqr
 dist-plain z c k K p q =
     norm-sqr-plain (cx (sub binary64 (z .re) (c .re)) (sub binary64 (z .im) (c .im))) (suc k) (omega arith)

@@ -17,12 +17,12 @@ use Rattle.laws.specs.Tests.{signBit}
 use Rattle.laws.specs.Size.{within-mono}
 use Rattle.demap.specs.Nearest.{distSqr, pointAt, nearest}
 use Rattle.demap.specs.NearestLaws.{First, nearest-below}
-use Rattle.demap.specs.SignLaw.{Near, Variance, PointsWithin, SignLaw}
+use Rattle.demap.specs.SignLaw.{PartsWithin, Variance, PointsWithin, SignLaw}
 use Rattle.demap.specs.Soft.{softBit}
 use Rattle.demap.specs.SoftLaws.{nearest-is, soft-sign}
 
 -- every part of a point is at most 1
-point-near : (w j : ℕ) → 1 ≤ w → w ≤ 2 → j < 2 ^ w → Near (pointAt (alphabet w) j) 0
+point-near : (w j : ℕ) → 1 ≤ w → w ≤ 2 → j < 2 ^ w → PartsWithin (pointAt (alphabet w) j) 0
 unfolding alphabet neg ofBits
 point-near zero j l h k = absurd (omega arith)
 point-near (suc zero) zero l h k = (lit≤ tt, lit≤ tt)
@@ -55,18 +55,18 @@ module _ (w : ℕ) (low : 1 ≤ w) (high : w ≤ 2) where
   psk-label-below z =
       rw (alphabet-length w low high) (nearest-below (λ j. distSqr z (pointAt (alphabet w) j)) (2 ^ w) (pow-pos w))
 
-  pub psk-nearest : (z : Complex) → Near z 500
+  pub psk-nearest : (z : Complex) → PartsWithin z 500
       → First (λ j. distSqr z (pointAt (alphabet w) j)) (2 ^ w) (nearest (alphabet w) z)
   psk-nearest z p = nearest-is w 500 (alphabet w) psk-points z p
 
-  pub psk-sign : (b : ℕ) (z : Complex) (nvar : Float) → b < w → Near z 500 → Variance nvar
+  pub psk-sign : (b : ℕ) (z : Complex) (nvar : Float) → b < w → PartsWithin z 500 → Variance nvar
       → signBit (softBit w (alphabet w) b z nvar) ≡ labelBit w b (nearest (alphabet w) z .label)
   unfolding SignLaw
   psk-sign b z nvar B p v = soft-sign w 500 (alphabet w) psk-points b B z p nvar v
 
   -- ---- a cell read: its sign bits are the w bits of a payload from `at` on exactly when the nearest label is the one
   -- that those bits spell
-  module _ (z : Complex) (nvar : Float) (p : Near z 500) (v : Variance nvar) (payload : List ℕ) (at : ℕ)
+  module _ (z : Complex) (nvar : Float) (p : PartsWithin z 500) (v : Variance nvar) (payload : List ℕ) (at : ℕ)
       (bits : Bits payload at w) where
     pub read-says : ((b : ℕ) → b < w → signBit (softBit w (alphabet w) b z nvar) ≡ getD payload (at + b) 0)
         → nearest (alphabet w) z .label ≡ labelAt payload at w

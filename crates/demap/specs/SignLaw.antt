@@ -14,8 +14,8 @@ use Rattle.demap.specs.Nearest.{pointAt, nearest}
 use Rattle.demap.specs.Soft.{softBit}
 
 -- a complex number with parts of at most 2 ^ k in size
-abbrev pub Near : Complex → ℕ → Type 0
-Near z k = Within (z .re) k × Within (z .im) k
+abbrev pub PartsWithin : Complex → ℕ → Type 0
+PartsWithin z k = Within (z .re) k × Within (z .im) k
 
 -- 1e-3
 abbrev pub milli : Float
@@ -29,7 +29,7 @@ Variance nvar = Signed false nvar × T (le milli nvar)
 pub record PointsWithin (w k : ℕ) (points : List Complex) : Type 0 where
   pub count : length points ≡ 2 ^ w
   pub room : k ≤ 510
-  pub near : (j : ℕ) → j < 2 ^ w → Near (pointAt points j) k
+  pub near : (j : ℕ) → j < 2 ^ w → PartsWithin (pointAt points j) k
 
 -- "A read bit is 1 when the soft bit's sign bit is set.": of every such alphabet, every step z with parts of at most
 -- 2 ^ k, every such variance and each of the w bits, the sign bit of the soft bit is that bit of the nearest label
@@ -37,6 +37,6 @@ unfoldable pub SignLaw : Type 0
 SignLaw =
     (w k : ℕ) (points : List Complex) → PointsWithin w k points
     → (b : ℕ) → b < w
-    → (z : Complex) → Near z k
+    → (z : Complex) → PartsWithin z k
     → (nvar : Float) → Variance nvar
     → signBit (softBit w points b z nvar) ≡ labelBit w b (nearest points z .label)

@@ -20,7 +20,7 @@ use Rattle.laws.specs.Operations.{sub-plain, mul-plain-signed}
 use Rattle.laws.specs.Maximum.{maxf-ge, recip-plain}
 use Rattle.demap.specs.declared.Closest.{Closest}
 use Rattle.demap.specs.Nearest.{distSqr, pointAt, nearest}
-use Rattle.demap.specs.SignLaw.{Near, milli, Variance, PointsWithin, SignLaw}
+use Rattle.demap.specs.SignLaw.{PartsWithin, milli, Variance, PointsWithin, SignLaw}
 use Rattle.demap.specs.NearestLaws.{dist-plain, dist-fits, First, nearest-first, plain-below-inf}
 use Rattle.demap.specs.Candidates.{candidate}
 use Rattle.demap.specs.CandidateLaws.{candidate-is}
@@ -111,12 +111,12 @@ soft-fits w points b z r s =
 
 module _ (w k : ℕ) (points : List Complex) (W : PointsWithin w k points) where
   -- the nearest point is the first of the least distances
-  pub nearest-is : (z : Complex) → Near z k → First (λ j. distSqr z (pointAt points j)) (2 ^ w) (nearest points z)
+  pub nearest-is : (z : Complex) → PartsWithin z k → First (λ j. distSqr z (pointAt points j)) (2 ^ w) (nearest points z)
   unfolding nearest
   nearest-is z p = rw (W .count) (nearest-first (λ j. distSqr z (pointAt points j)) (2 ^ w) (pow-pos w)
       (λ j l. dist-plain z (pointAt points j) k (W .room) p (W .near j l)))
 
-  soft-signed : (b : ℕ) (z : Complex) (s : Float) → b < w → Near z k → T (plain s)
+  soft-signed : (b : ℕ) (z : Complex) (s : Float) → b < w → PartsWithin z k → T (plain s)
       → Signed (eqb (labelBit w b (nearest points z .label)) 1) (softOf w points b z (nearest points z) s)
   unfolding softOf alternative
   soft-signed b z s B p S =

@@ -3,7 +3,7 @@
 ghost use mathlib.Core.Path.{_≡_};
 ghost use Prim.Native.Nat.{_+_, _*_, _<_, _≤_};
 ghost use lib.ListN.{length};
-ghost use Rattle.complex.specs.Arithmetic.{cdiv};
+ghost use Rattle.complex.specs.Arithmetic.{cunscale};
 ghost use Rattle.complex.specs.Pairs.{cget, cfilled};
 ghost use Rattle.eq.specs.Steps.{coherentOf, coherenceOf, turnOf, stepOf, packedAt, steppedOf, Preceded, Packed};
 ghost use Rattle.eq.specs.Noise.{deviationOf, noiseOf, Inside};
@@ -96,7 +96,7 @@ pub fn mean_norm(steps: &[f64], n: usize) -> f64
 // Divides the first n steps by g.
 pub fn divide(steps: &mut [f64], n: usize, g: f64)
     requires { ⌜ 2 * n ≤ length (now steps) ⌝ }
-    ensures { λ _. ⌜ now (steps .exit) ≡ cfilled (λ k. cdiv (cget (now (steps .entry)) k) g) n (now (steps .entry)) ⌝ }
+    ensures { λ _. ⌜ now (steps .exit) ≡ cfilled (λ k. cunscale (cget (now (steps .entry)) k) g) n (now (steps .entry)) ⌝ }
 {
     let mut k = 0;
     while k < n {

@@ -6,6 +6,8 @@ use Prim.Native.Nat.{ℕ, _+_, _≤_, _<_}
 use native.Mathlib.Omega.{arith}
 use lib.Ieee.{Float, lt}
 use borrow.Author.Tests.{ltb-true, ltb-false}
+use Rattle.complex.specs.ListLaws.{each-append, each-implies}
+use Rattle.complex.specs.Lists.{Each}
 use Rattle.laws.specs.Order.{clash, lt-step, lt-trans}
 use Rattle.refusal.specs.declared.Position.{Position}
 use Rattle.hold.specs.declared.Block.{Block}
@@ -16,7 +18,7 @@ use Rattle.hold.specs.declared.Candidate.{Candidate}
 use Rattle.hold.specs.declared.Candidate.the-variants.{NoCandidate, Metric}
 use Rattle.hold.specs.declared.Hold.{Hold}
 use Rattle.hold.specs.Offer.{atLeast, due, greater, taken, keeping, releasing, offeredAt, offered}
-use Rattle.hold.specs.History.{Offer, Detection, offering, Each, Eligible, Below, NotAbove, Greatest, Quiet, History, none-due, release-at, Number}
+use Rattle.hold.specs.History.{Offer, Detection, offering, Eligible, Below, NotAbove, Greatest, Quiet, History, none-due, release-at, Number}
 use Rattle.hold.specs.Releases.{released, releases}
 use Rattle.hold.specs.HistoryRule.{HistoryRule, HistoryOnly}
 
@@ -38,21 +40,13 @@ splits (v ∷ b₁) x a₁ [] y a₂ e = first-later b₁ (cc) (cc)
 splits (v ∷ b₁) x a₁ (w ∷ b₂) y a₂ e = splits-cons v w (cc) (splits b₁ x a₁ b₂ y a₂ (cc))
 
 -- ---- what holds of each
-each-append : (P : Offer → Type 0) (os ps : List Offer) → Each P os → Each P ps → Each P (os ++ ps)
-each-append P [] ps u v = v
-each-append P (o ∷ os) ps u v = (u .0, each-append P os ps (u .1) v)
-
-each-at : (P : Offer → Type 0) (os : List Offer) (o : Offer) (ps : List Offer) → Each P (os ++ (o ∷ ps)) → P o
-each-at P [] o ps u = u .0
-each-at P (q ∷ os) o ps u = each-at P os o ps (u .1)
+each-among : (P : Offer → Type 0) (os : List Offer) (o : Offer) (ps : List Offer) → Each P (os ++ (o ∷ ps)) → P o
+each-among P [] o ps u = u .0
+each-among P (q ∷ os) o ps u = each-among P os o ps (u .1)
 
 each-right : (P : Offer → Type 0) (os ps : List Offer) → Each P (os ++ ps) → Each P ps
 each-right P [] ps u = u
 each-right P (o ∷ os) ps u = each-right P os ps (u .1)
-
-each-map : (P Q : Offer → Type 0) → ((o : Offer) → P o → Q o) → (os : List Offer) → Each P os → Each Q os
-each-map P Q f [] u = tt
-each-map P Q f (o ∷ os) u = (f o (u .0), each-map P Q f os (u .1))
 
 each-map₂ : (P R Q : Offer → Type 0) → ((o : Offer) → P o → R o → Q o) → (os : List Offer) → Each P os → Each R os → Each Q os
 each-map₂ P R Q f [] u v = tt
@@ -67,8 +61,8 @@ never-earlier : {block : Block} {os : List Offer} {d e : Detection} (g : Greates
     → k .before ≡ g .before ++ (offering d ∷ between) → g .after ≡ between ++ (offering e ∷ k .after) → ⊥
 never-earlier {block} {os} {d} {e} g k between p q =
     clash
-    (sym (each-at (NotAbove block (d .metric)) between (offering e) (k .after) (rw q at (g .later)) (e .metric) (offered-eligible block e (k .allowed)))
-    ∙ each-at (Below block (e .metric)) (g .before) (offering d) between (rw p at (k .earlier)) (d .metric) (offered-eligible block d (g .allowed)))
+    (sym (each-among (NotAbove block (d .metric)) between (offering e) (k .after) (rw q at (g .later)) (e .metric) (offered-eligible block e (k .allowed)))
+    ∙ each-among (Below block (e .metric)) (g .before) (offering d) between (rw p at (k .earlier)) (d .metric) (offered-eligible block d (g .allowed)))
 
 offering-only : (d e : Detection) → offering d ≡ offering e → d ≡ e
 offering-only d e p =
@@ -154,7 +148,7 @@ all-below : (block : Block) (os : List Offer) (d : Detection) (n : Float) → lt
 all-below block os d n l u g =
     rw (g .among)
     (each-append (Below block n) (g .before) (offering d ∷ g .after)
-    (each-map (Below block (d .metric)) (Below block n) (below-below block (d .metric) n l) (g .before) (g .earlier)) (
+    (each-implies (Below block (d .metric)) (Below block n) (below-below block (d .metric) n l) (g .before) (g .earlier)) (
       (λ k e. let m : d .metric ≡ k = metric-of d k e in rw m at l),
       each-map₂ (NotAbove block (d .metric)) Number (Below block n) (not-above-below block (d .metric) n l) (g .after) (g .later)
           (each-right Number (g .before) (offering d ∷ g .after) (rw (g .among) at u) .1),
@@ -191,7 +185,7 @@ longer block os d o n g =
 module _ (block : Block) (os : List Offer) (o : Offer) (u : Each Number os) where
   holds-first : (m : Float) → o .candidate ≡ Metric m → Holds block os Empty → (t : Bool) → atLeast (o .position) block ≡ t
       → Holds block (os ++ (o ∷ [])) (cond (t && true) (At (o .position) m) Empty)
-  holds-first m e i true a = newest block os o m e a (each-map (Barred block) (Below block m) (barred-below block m) os i)
+  holds-first m e i true a = newest block os o m e a (each-implies (Barred block) (Below block m) (barred-below block m) os i)
   holds-first m e i false a = each-append (Barred block) os (o ∷ []) i (below-block block o a, tt)
 
   holds-greater : (b : Position) (n m : Float) → o .candidate ≡ Metric m → Holds block os (At b n) → (t l : Bool) → atLeast (o .position) block ≡ t → lt n m ≡ l
@@ -211,7 +205,7 @@ module _ (block : Block) (os : List Offer) (o : Offer) (u : Each Number os) wher
 
 -- ---- an offer that releases nothing
 not-empty : (hold : ℕ) (block : Block) (os : List Offer) (o : Offer) → Each (Barred block) os → (d : Detection) → Greatest block os d → o .position .0 ≤ d .position .0 + hold
-not-empty hold block os o u d g = absurd (each-at (Barred block) (g .before) (offering d) (g .after) (rw (g .among) at u) (d .metric) (offered-eligible block d (g .allowed)))
+not-empty hold block os o u d g = absurd (each-among (Barred block) (g .before) (offering d) (g .after) (rw (g .among) at u) (d .metric) (offered-eligible block d (g .allowed)))
 
 nil-split : {A : Type 0} (m : List A) (y : A) (a : List A) → [] ≡ m ++ (y ∷ a) → ⊥
 nil-split [] y a e = let z : _≡_ {A = ℕ} 0 1 = cc in omega arith

@@ -6,6 +6,7 @@ use mathlib.Core.List.{List, [], _∷_, map}
 use native.Mathlib.Omega.{arith}
 use lib.Ieee.{Float, nan, inf, fin, isNan}
 use lib.Ieee.Scale.{finite}
+use Rattle.complex.specs.Lists.{Each}
 use Rattle.laws.specs.Order.{clash}
 use Rattle.refusal.specs.declared.Position.{Position}
 use Rattle.refusal.specs.declared.Refusal.the-variants as no
@@ -21,7 +22,7 @@ use Rattle.hold.specs.declared.LoneAnswer.{LoneAnswer}
 use Rattle.hold.specs.declared.LoneAnswer.the-variants.{Refused, Answered}
 use Rattle.hold.specs.Offer.{offered, freshHold}
 use Rattle.hold.specs.OfferLaws.{OfHeld, OfCandidate, offered-keeps}
-use Rattle.hold.specs.History.{Offer, Each, Number}
+use Rattle.hold.specs.History.{Offer, Number}
 use Rattle.hold.specs.Releases.{released, holdAfter, releases}
 use Rattle.hold.specs.LoneOffer.{outside, badHeld, badCandidate, badOffer, loneFault, outcome, unlessMet}
 use Rattle.hold.specs.LoneCalls.{LoneCalls, none, next, releasedBy, loneAnswers, badGiven, loneVerdict, acceptedOffers, LoneHistories}

@@ -4,6 +4,7 @@ use mathlib.Core.Bool.{true, false}
 use mathlib.Core.List.{List, [], _∷_, _++_}
 use Prim.Native.Nat.{ℕ, _+_, _≤_, _<_}
 use lib.Ieee.{Float, lt, isNan}
+use Rattle.complex.specs.Lists.{Each}
 use Rattle.refusal.specs.declared.Position.{Position}
 use Rattle.hold.specs.declared.Block.{Block}
 use Rattle.hold.specs.declared.Block.the-variants.{From}
@@ -23,10 +24,6 @@ pub record Detection : Type 0 where
 -- the offer that brings a candidate
 abbrev pub offering : Detection → Offer
 offering d = record { position = d .position; candidate = Metric (d .metric) }
-
-abbrev pub Each : (Offer → Type 0) → List Offer → Type 0
-Each P [] = Unit {0}
-Each P (o ∷ os) = P o × Each P os
 
 -- the offer brings a candidate of metric m "at positions not below the block"
 pub record Eligible (block : Block) (m : Float) (o : Offer) : Type 0 where

@@ -3,10 +3,11 @@ use mathlib.Core.Path.{_≡_}
 use mathlib.Core.List.{List}
 use mathlib.Core.Logic.{_↔_}
 use Prim.Native.Nat.{ℕ}
+use Rattle.complex.specs.Lists.{Each}
 use Rattle.hold.specs.declared.Block.{Block}
 use Rattle.hold.specs.declared.Held.the-variants.{Empty}
 use Rattle.hold.specs.declared.Hold.{Hold}
-use Rattle.hold.specs.History.{Offer, Detection, Each, History, Number}
+use Rattle.hold.specs.History.{Offer, Detection, History, Number}
 use Rattle.hold.specs.Releases.{releases}
 
 -- proved as `history-rule`: from any hold that holds nothing, over every list of offers whose metrics are no NaN, the

@@ -6,13 +6,14 @@ use mathlib.Core.List.{List, map}
 use native.Mathlib.Nat.{zero-mul}
 use native.Mathlib.Omega.{arith}
 use lib.ListN.{length, getD, length-map, List·getD-map}
+use Rattle.complex.specs.ListLaws.{each-append, each-map, each-at}
+use Rattle.complex.specs.Lists.{Each}
 use Rattle.level.specs.declared.Layout.{Layout}
 use Rattle.dat.specs.Cells as dat
 use Rattle.dat.specs.Cells.{cellAt, byCarrier}
 use Rattle.dat.specs.Counts.{byCarrier-count}
 use Rattle.dat.specs.Accepted.{Markers}
 use Rattle.dat.specs.AcceptedLaws.{row-in}
-use Rattle.chi.specs.Each.{Each, each-append, each-map, each-at}
 use Rattle.chi.specs.Cells.{InRow, InFrame}
 use Rattle.eq.specs.Steps.{Preceded}
 use Rattle.eq.specs.Noise.{Inside}

@@ -30,7 +30,7 @@ use Rattle.level.specs.Sized.{Sized}
 use Rattle.level.specs.SizedLaws.{sized}
 use Rattle.dat.specs.Cells.{Cell, cellAt}
 use Rattle.dat.specs.AcceptedLaws.{row-in}
-use Rattle.demap.specs.SignLaw.{Near, Variance}
+use Rattle.demap.specs.SignLaw.{PartsWithin, Variance}
 use Rattle.demap.specs.PskLaws.{read-says, read-by}
 use Rattle.psk.specs.Symbols.{Sending, cellNumber, bitPlace, cellLabel}
 use Rattle.psk.specs.Accepted.{Ready}
@@ -83,7 +83,7 @@ module _ (l : Layout) (m : Sending) (room : ℕ) (R : Ready l m room) (z : List 
   numbered : (i : ℕ) → i < l .nc * cells l → Numbered l (m .markers) (cellOf l (m .markers) i) i
   numbered = signs.numbered l (R .layout) (m .markers) (R .markers-ok) z G
 
-  cell-near : (i : ℕ) → i < l .nc * cells l → Near (receivedAt l (m .markers) z i) 500
+  cell-near : (i : ℕ) → i < l .nc * cells l → PartsWithin (receivedAt l (m .markers) z i) 500
   cell-near = signs.cell-near l (R .layout) (m .markers) (R .markers-ok) z G
 
   place-in : (i b : ℕ) → i < l .nc * cells l → b < l .bps → i * l .bps + b < l .n

@@ -6,6 +6,7 @@ use mathlib.Core.List.{List}
 use native.Mathlib.Omega.{arith}
 use native.Mathlib.Nat.{add-zero}
 use lib.Ieee.{Float, isNan, le}
+use Rattle.complex.specs.Lists.{Each}
 use Rattle.laws.specs.Order.{le-number}
 use Rattle.complex.specs.declared.Complex.{Complex}
 use Rattle.complex.specs.Lists.{tabulate}
@@ -18,7 +19,7 @@ use Rattle.track.specs.Memory.{trackIn}
 use Rattle.filter.specs.Filter.{filteredEnd}
 use Rattle.hold.specs.declared.Candidate.the-variants.{NoCandidate, Metric}
 use Rattle.hold.specs.Offer.{freshHold}
-use Rattle.hold.specs.History.{Each, Number}
+use Rattle.hold.specs.History.{Number}
 use Rattle.search.specs.Chi.{least, candidateOf}
 use Rattle.state.specs.declared.SearchPlace.the-variants.{Fresh}
 use Rattle.rx.specs.Receiver.{opened, emptyCarrier, Feed}

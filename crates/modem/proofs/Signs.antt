@@ -20,7 +20,7 @@ use Rattle.level.specs.SizedLaws.{sized}
 use Rattle.dat.specs.Cells.{cellAt}
 use Rattle.dat.specs.Accepted.{Markers}
 use Rattle.dat.specs.AcceptedLaws.{markers-of, row-in}
-use Rattle.demap.specs.SignLaw.{Near, Variance}
+use Rattle.demap.specs.SignLaw.{PartsWithin, Variance}
 use Rattle.demap.specs.SoftLaws.{variance-floored}
 use Rattle.demap.specs.GainLaws.{gain-near}
 use Rattle.demap.specs.PskLaws.{psk-label-below, psk-sign}
@@ -44,7 +44,7 @@ module _ (l : Layout) (o : IsLayout l) (table : List ℕ) (M : Markers l table) 
   size = sized l o
 
   -- every received step is bounded, as the sign law asks it
-  received-near : (c s : ℕ) → c < l .nc → 1 ≤ s → s < l .nsym → Near (receivedIn l table z c s) 500
+  received-near : (c s : ℕ) → c < l .nc → 1 ≤ s → s < l .nsym → PartsWithin (receivedIn l table z c s) 500
   unfolding receivedIn divided gainOf
   received-near c s C p S =
       let n = steps-few (l .nc) (l .nsym) (size .nc-least) (size .nsym-least) (size .symbols-most) in
@@ -59,7 +59,7 @@ module _ (l : Layout) (o : IsLayout l) (table : List ℕ) (M : Markers l table) 
   pub numbered : (i : ℕ) → i < l .nc * cells l → Numbered l table (cellOf l table i) i
   numbered i I = entry-numbered l table M i (cellAt 0 0) I
 
-  pub cell-near : (i : ℕ) → i < l .nc * cells l → Near (receivedAt l table z i) 500
+  pub cell-near : (i : ℕ) → i < l .nc * cells l → PartsWithin (receivedAt l table z i) 500
   cell-near i I =
       let n = numbered i I .is-cell in
       received-near _ _ (n .carrier) (n .least) (n .most)

@@ -20,7 +20,7 @@ use Rattle.laws.specs.Size.{round-upper, round-lower, round-within}
 use Rattle.laws.specs.Operations.{square-is, add-finite, mul-finite, add-plain, add-comm, add-ge, square-plain}
 use Rattle.complex.specs.declared.Complex.{Complex}
 use Rattle.complex.specs.Arithmetic.{cx, cmul, cconj, cscale, normSqr}
-use Rattle.dat.specs.Tables.{low, high, badPhasor}
+use Rattle.dat.specs.Tables.{leastSquare, greatestSquare, badPhasor}
 use Rattle.psk.specs.Symbols.{symbolScale, symbolOf}
 use Rattle.psk.proofs.Turn.{one, nought, turnOf, Turn}
 use Rattle.laws.specs.Ranges.{in-range-finite}
@@ -97,20 +97,20 @@ exact-25 : HasValue (round binary64 false 25 16) false 25 16
 unfolding round
 exact-25 = (refl, refl)
 
-high-plain : T (plain high)
+high-plain : T (plain greatestSquare)
 unfolding ofBits
 high-plain = tt
 
-low-finite : T (finite low)
+low-finite : T (finite leastSquare)
 unfolding ofBits
 low-finite = tt
 
-high-finite : T (finite high)
+high-finite : T (finite greatestSquare)
 unfolding ofBits
 high-finite = tt
 
 -- 1.01 is below 25/16
-high-below : 25 * den high ≤ num high * 16 → ⊥
+high-below : 25 * den greatestSquare ≤ num greatestSquare * 16 → ⊥
 unfolding ofBits
 high-below h = le→leb _ _ h
 
@@ -121,7 +121,7 @@ chain : (a u b v : ℕ) → 25 * u ≤ a * 16 → a * v ≤ b * u → 25 * v * u
 chain a u b v h g = omega (arith, mul-le-mul-right v h, mul-le-mul-right 16 g)
 
 -- where the rounded x² + y² is at most 1.01, |x| is at most 5/4: above it, x² would be 25/16 or more
-part-most : (x y : Float) → T (finite (add binary64 (mul binary64 x x) (mul binary64 y y))) → T (le (add binary64 (mul binary64 x x) (mul binary64 y y)) high) → AtMost 5 4 x
+part-most : (x y : Float) → T (finite (add binary64 (mul binary64 x x) (mul binary64 y y))) → T (le (add binary64 (mul binary64 x x) (mul binary64 y y)) greatestSquare) → AtMost 5 4 x
 part-most x y F L = go (leb (num x * 4) (5 * den x)) refl
   where
     A : Float
@@ -145,10 +145,10 @@ part-most x y F L = go (leb (num x * 4) (5 * den x)) refl
     x-finite : T (finite x)
     x-finite = mul-finite binary64 x x (finite-parts .0) .0
 
-    below-high : num A * den high ≤ num high * den A
+    below-high : num A * den greatestSquare ≤ num greatestSquare * den A
     below-high =
-        through (num A) (num S) (num high) (den A) (den S) (den high) (den-pos S)
-        (add-ge binary64 A B (mul-fits binary64 x x) square (square-plain binary64 y (finite-parts .1)) total) (le-cross S high total high-plain L)
+        through (num A) (num S) (num greatestSquare) (den A) (den S) (den greatestSquare) (den-pos S)
+        (add-ge binary64 A B (mul-fits binary64 x x) square (square-plain binary64 y (finite-parts .1)) total) (le-cross S greatestSquare total high-plain L)
 
     above : 5 * den x < num x * 4 → 25 * den A ≤ num A * 16
     above h =
@@ -157,7 +157,7 @@ part-most x y F L = go (leb (num x * 4) (5 * den x)) refl
 
     go : (b : Bool) → leb (num x * 4) (5 * den x) ≡ b → AtMost 5 4 x
     go true e = finite-most 5 4 x x-finite (leb-true _ _ e)
-    go false e = absurd (high-below (le-of-mul-le-mul-right (chain (num A) (den A) (num high) (den high) (above (leb-false _ _ e)) below-high) (den-pos A)))
+    go false e = absurd (high-below (le-of-mul-le-mul-right (chain (num A) (den A) (num greatestSquare) (den greatestSquare) (above (leb-false _ _ e)) below-high) (den-pos A)))
 
 pub phasor-most : (z : Complex) → badPhasor z ≡ false → AtMost 5 4 (z .re) × AtMost 5 4 (z .im)
 unfolding badPhasor inRange normSqr
@@ -165,12 +165,12 @@ phasor-most z h =
     let A = mul binary64 (z .re) (z .re) in
     let B = mul binary64 (z .im) (z .im) in
     let a = neither (not (finite (z .re)) || not (finite (z .im))) _ h in
-    let t : T (inRange low high (normSqr z)) = subst T (sym (not-false (inRange low high (normSqr z)) (a .1))) tt in
-    let F : T (finite (add binary64 A B)) = in-range-finite low high (normSqr z) low-finite high-finite t in
-    let L : T (le (add binary64 A B) high) = and-r (le low (normSqr z)) (le (normSqr z) high) t in
+    let t : T (inRange leastSquare greatestSquare (normSqr z)) = subst T (sym (not-false (inRange leastSquare greatestSquare (normSqr z)) (a .1))) tt in
+    let F : T (finite (add binary64 A B)) = in-range-finite leastSquare greatestSquare (normSqr z) low-finite high-finite t in
+    let L : T (le (add binary64 A B) greatestSquare) = and-r (le leastSquare (normSqr z)) (le (normSqr z) greatestSquare) t in
     let f = add-finite binary64 A B F in
     let e = add-comm binary64 A B (square-plain binary64 (z .re) (f .0)) (square-plain binary64 (z .im) (f .1)) in
-    (part-most (z .re) (z .im) F L, part-most (z .im) (z .re) (subst (λ (x : Float). T (finite x)) e F) (subst (λ (x : Float). T (le x high)) e L))
+    (part-most (z .re) (z .im) F L, part-most (z .im) (z .re) (subst (λ (x : Float). T (finite x)) e F) (subst (λ (x : Float). T (le x greatestSquare)) e L))
 
 -- ---- a symbol's parts
 exact : HasValue (round binary64 false 5 4) false 5 4

@@ -10,7 +10,7 @@ use lib.Ieee.{Float}
 use Rattle.refusal.specs.declared.Refusal.the-variants as no
 use Rattle.refusal.specs.Outcome.{refused, answered}
 use Rattle.complex.specs.declared.Complex.{Complex}
-use Rattle.complex.specs.Arithmetic.{cdiv}
+use Rattle.complex.specs.Arithmetic.{cunscale}
 use Rattle.complex.specs.Lists.{tabulate}
 use Rattle.complex.specs.ListLaws.{length-tabulate}
 use Rattle.complex.specs.Pairs.{cget, cfilled}
@@ -68,7 +68,7 @@ module _ (l : Layout) (i : IsLayout l) (table : List ℕ) (m : Markers l table)
   pub sounded : (steps steps′ out′ : List Float) (g nvar median : Float)
       → steps ≡ scratchOf l (undivided l table z)
       → g ≡ gainOf l table z → wrongGain g ≡ false
-      → steps′ ≡ cfilled (λ k. cdiv (cget steps k) g) (stepCount l) steps
+      → steps′ ≡ cfilled (λ k. cunscale (cget steps k) g) (stepCount l) steps
       → nvar ≡ varianceIn l table (λ k. cget steps′ k)
       → out′ ≡ tabulate (softIn l table (λ k. cget steps′ k) nvar) (l .n)
       → median ≡ phaseMedian l table z
@@ -78,8 +78,8 @@ module _ (l : Layout) (i : IsLayout l) (table : List ℕ) (m : Markers l table)
   sounded steps steps′ out′ g nvar median e h w d v o k =
       let u : wrongGain (gainOf l table z) ≡ false = rw h at w in
       let s : steps′ ≡ scratchOf l (divided l table z) =
-      d ∙ ap₂ (λ (x : List Float) (y : Float). cfilled (λ k. cdiv (cget x k) y) (stepCount l) x) e h
-      ∙ divided-at l (undivided l table z) (λ x. cdiv x (gainOf l table z)) in
+      d ∙ ap₂ (λ (x : List Float) (y : Float). cfilled (λ k. cunscale (cget x k) y) (stepCount l) x) e h
+      ∙ divided-at l (undivided l table z) (λ x. cunscale x (gainOf l table z)) in
       let at : (k : ℕ) → k < stepCount l → cget steps′ k ≡ divided l table z k =
       λ k K. ap (λ (x : List Float). cget x k) s ∙ step-at l (divided l table z) k K in
       let n : nvar ≡ varianceOf l table z = v ∙ variance-same l table (λ k. cget steps′ k) (divided l table z) at in

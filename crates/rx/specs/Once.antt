@@ -9,6 +9,8 @@ use native.Mathlib.Nat.{le-trans}
 use lib.ListN.{length}
 use lib.Ieee.{Float}
 use borrow.Author.Tests.{lt-leb}
+use Rattle.complex.specs.ListLaws.{each-append}
+use Rattle.complex.specs.Lists.{Each}
 use Rattle.refusal.specs.declared.Position.{Position}
 use Rattle.complex.specs.Lists.{tabulate}
 use Rattle.level.specs.declared.Layout.{Layout}
@@ -24,7 +26,7 @@ use Rattle.hold.specs.declared.Candidate.{Candidate}
 use Rattle.hold.specs.declared.Candidate.the-variants.{NoCandidate, Metric}
 use Rattle.hold.specs.declared.Hold.{Hold}
 use Rattle.hold.specs.Offer.{blockNumber, atLeast, due, greater, taken, keeping, releasing, offeredAt, offered}
-use Rattle.hold.specs.History.{Offer, Each}
+use Rattle.hold.specs.History.{Offer}
 use Rattle.hold.specs.Releases.{released, releases}
 use Rattle.search.specs.Search.{reach, offerOf, offersFrom}
 use Rattle.state.specs.declared.SearchPlace.{SearchPlace}
@@ -120,10 +122,6 @@ close-once [] h q c w = omega arith
 close-once (o ∷ os) h q c w = offered-once o os (close-once os) h q c w (h .best) w
 
 -- ---- the offers of a search
-each-append : (P : Offer → Type 0) (os ps : List Offer) → Each P os → Each P ps → Each P (os ++ ps)
-each-append P [] ps u v = v
-each-append P (o ∷ os) ps u v = (u .0, each-append P os ps (u .1) v)
-
 pub each-offer : (P : Offer → Type 0) (chi : ℕ → Float) (p n : ℕ)
     → ((i : ℕ) → i < n → P (offerOf (p + 2 * i) (chi (p + 2 * i)))) → Each P (offersFrom chi p n)
 unfolding offersFrom tabulate

@@ -7,7 +7,7 @@ use borrow.Author.Tests.{not-true, not-false}
 use Rattle.complex.specs.declared.Complex.{Complex}
 use Rattle.complex.specs.Arithmetic.{normSqr}
 use Rattle.laws.specs.Tests.{inRange}
-use Rattle.dat.specs.Tables.{badPhasor, low, high}
+use Rattle.dat.specs.Tables.{badPhasor, leastSquare, greatestSquare}
 use Rattle.dat.proofs.bad_phasor.Statement.{statement}
 use Rattle.dat.proofs.bad_phasor.Tie as tie
 
@@ -19,7 +19,7 @@ second : (z : Complex) → finite (z .re) ≡ true → finite (z .im) ≡ false 
 unfolding badPhasor
 second z a b = rw (a, b) refl
 
-third : (z : Complex) (r : Bool) → finite (z .re) ≡ true → finite (z .im) ≡ true → r ≡ inRange low high (normSqr z) → not r ≡ badPhasor z
+third : (z : Complex) (r : Bool) → finite (z .re) ≡ true → finite (z .im) ≡ true → r ≡ inRange leastSquare greatestSquare (normSqr z) → not r ≡ badPhasor z
 unfolding badPhasor
 third z r a b e = rw (a, b) (ap not e)
 
@@ -47,7 +47,7 @@ returns-3 : tie.Need-returns-3
 returns-3 c =
     third _ _ (sym (c .before .before .before .before .before .is-finite .ensures) ∙ not-false _ (c .before .before .before .before .if1 .left))
     (sym (c .before .before .before .is-finite2 .ensures) ∙ not-false _ (c .before .before .if2 .left))
-    (c .in-range .ensures ∙ ap (inRange low high) (c .before .norm-sqr .ensures))
+    (c .in-range .ensures ∙ ap (inRange leastSquare greatestSquare) (c .before .norm-sqr .ensures))
 
 pub bad-phasor-spec : {M : Type 1} → statement M
 bad-phasor-spec =

@@ -2,7 +2,7 @@
 use mathlib.Core.Path.{ap, _∙_}
 use lib.Ieee.{Float, binary64, add, ofBits}
 use borrow.Author.Needs.{needs}
-use Rattle.complex.specs.Arithmetic.{cdiv}
+use Rattle.complex.specs.Arithmetic.{cunscale}
 use Rattle.root.specs.Unit.{unitOf}
 use Rattle.root.proofs.unit.Statement.{statement}
 use Rattle.root.proofs.unit.Tie as tie
@@ -17,7 +17,7 @@ returns : tie.Need-returns
 unfolding unitOf
 returns c =
     let z = c .before .before .args .z in
-    c .unscale .ensures ∙ ap (λ (n : Float). cdiv z (add binary64 n (ofBits binary64 0x39b4_484b_feeb_c2a0))) (c .before .norm .ensures)
+    c .unscale .ensures ∙ ap (λ (n : Float). cunscale z (add binary64 n (ofBits binary64 0x39b4_484b_feeb_c2a0))) (c .before .norm .ensures)
 
 pub unit-spec : {M : Type 1} → statement M
 unit-spec = tie.close (tie.spec norm-requires unscale-requires returns)

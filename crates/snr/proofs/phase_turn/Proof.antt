@@ -3,7 +3,7 @@ use mathlib.Core.Path.{_≡_, refl, ap₂, _∙_}
 use mathlib.Core.Bool.{true, false}
 use lib.Ieee.{Float, binary64, ofBits, eq}
 use Rattle.complex.specs.declared.Complex.{Complex}
-use Rattle.complex.specs.Arithmetic.{fzero, cx, cconj, cdiv}
+use Rattle.complex.specs.Arithmetic.{fzero, cx, cconj, cunscale}
 use Rattle.root.specs.Root.{normOf}
 use Rattle.snr.specs.Error.{phaseTurn}
 use borrow.Author.Needs.{needs}
@@ -16,11 +16,11 @@ still s n e t =
     let u : eq (normOf s) fzero ≡ true = rw e at t in
     rw u refl
 
-turned : (s w r : Complex) (n : Float) → n ≡ normOf s → eq n fzero ≡ false → w ≡ cconj s → r ≡ cdiv w n → r ≡ phaseTurn s
+turned : (s w r : Complex) (n : Float) → n ≡ normOf s → eq n fzero ≡ false → w ≡ cconj s → r ≡ cunscale w n → r ≡ phaseTurn s
 unfolding phaseTurn
 turned s w r n e t g h =
     let u : eq (normOf s) fzero ≡ false = rw e at t in
-    rw u (h ∙ ap₂ cdiv g e)
+    rw u (h ∙ ap₂ cunscale g e)
 
 norm-requires : tie.Need-norm-requires
 norm-requires c κs = search needs
