@@ -1,5 +1,5 @@
-//! Links the proved static library, libmodem_c.a: from the folder whose absolute path DIMPSTEA_LIB has, or else from
-//! target/staticlib of the repository, where `rt staticlib modem_c` writes it.
+//! Links the proved static libraries, libcalls_c.a and libmodem_c.a: from the folder whose absolute path DIMPSTEA_LIB
+//! has, or else from target/staticlib of the repository, where `rt staticlib calls_c` and `modem_c` write them.
 use std::{env, path::PathBuf};
 
 fn main() {
@@ -7,14 +7,16 @@ fn main() {
         || PathBuf::from(env::var_os("CARGO_MANIFEST_DIR").unwrap()).join("../target/staticlib"),
         PathBuf::from,
     );
-    let archive = folder.join("libmodem_c.a");
     println!("cargo:rerun-if-env-changed=DIMPSTEA_LIB");
-    println!("cargo:rerun-if-changed={}", archive.display());
-    assert!(
-        archive.exists(),
-        "{} is missing: run `rt staticlib modem_c` in the repository, or set DIMPSTEA_LIB to the folder that has it",
-        archive.display()
-    );
     println!("cargo:rustc-link-search=native={}", folder.display());
-    println!("cargo:rustc-link-lib=static=modem_c");
+    for library in ["calls_c", "modem_c"] {
+        let archive = folder.join(format!("lib{library}.a"));
+        println!("cargo:rerun-if-changed={}", archive.display());
+        assert!(
+            archive.exists(),
+            "{} is missing: run `rt staticlib {library}` in the repository, or set DIMPSTEA_LIB to the folder that has it",
+            archive.display()
+        );
+        println!("cargo:rustc-link-lib=static={library}");
+    }
 }

@@ -1,4 +1,4 @@
-//! The exports of libmodem_c.a, as include/dimpstea.h declares them: a slice is a pointer and a length.
+//! The exports of libcalls_c.a and libmodem_c.a, as include/dimpstea.h declares them: a slice is a pointer and a length.
 extern "C" {
     pub fn dimpstea_layout(bandwidth: u32, record: u32, numbers: *mut u64, numbers_len: usize) -> u32;
 

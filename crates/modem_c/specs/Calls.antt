@@ -9,18 +9,10 @@ use lib.Ieee.{Float}
 use Rattle.refusal.specs.declared.Refusal.the-variants as no
 use Rattle.refusal.specs.declared.Fault.{Fault}
 use Rattle.refusal.specs.Refusal.{numberOf}
-use Rattle.refusal.specs.Outcome as answer
 use Rattle.refusal.specs.Outcome.{Outcome, refused, answered, codeOf, andThen, firstFault, orElse, judged, after}
 use Rattle.level.specs.declared.Layout.{Layout}
 use Rattle.level.specs.Layout.{chosen}
 use Rattle.dat.specs.Tables.{tableFault}
-use Rattle.refusal.specs.declared.Answer.{Answer}
-use Rattle.psk.specs.Symbols.{Sending}
-use Rattle.psk.specs.Send.{Modulated}
-use Rattle.nco.specs.Nco.{NcoPhase}
-use Rattle.audio.specs.CarrierAudio.{CarrierAudio}
-use Rattle.meter.specs.PayloadBits.{PayloadBits}
-use Rattle.meter.specs.Meter.{metered}
 use Rattle.hold.specs.declared.Hold.{Hold}
 use Rattle.hold.specs.declared.Candidate.{Candidate}
 use Rattle.hold.specs.declared.Candidate.the-variants.{NoCandidate, Metric}
@@ -37,44 +29,6 @@ use Rattle.rx.specs.Open.{openedState}
 use Rattle.rx.specs.Feed.{Given, FedBy}
 use Rattle.modem_c.specs.Numbers.{layoutNumbers, stateOf, numbersOf, metricOf, holdAt, holdNumbers, heldMetric}
 use Rattle.modem_c.specs.Numbers.{position}
-
--- ---- answers as numbers
--- an answer that has no values, as a number
-abbrev pub answerCode : Answer → ℕ
-answerCode a = codeOf (answer.outcome a)
-
--- a call that hands on another: there is an answer that meets the inner contract, and its number is the call's
-pub record HandsOn {A : Type 0} (number : A → ℕ) (Contract : A → Type 0) (code : ℕ) : Type 0 where
-  pub answer : A
-  pub meets : Contract answer
-  pub code-is : code ≡ number answer
-
--- ---- calls that hand on another
--- sending symbols: `psk::modulate`
-abbrev pub ModulateCall : ℕ → ℕ → Sending → List Float → ℕ → List Float → Type 0
-ModulateCall hz rec m rows code rows′ = HandsOn answerCode (λ a. Modulated hz rec m rows rows′ a) code
-
--- the carriers' phases: `nco::nco_phase`
-abbrev pub NcoPhaseCall : ℕ → ℕ → ℕ → List Float → List Float → ℕ → List Float → List Float → Type 0
-NcoPhaseCall hz rec window phases out code phases′ out′ =
-    HandsOn answerCode (λ a. NcoPhase (chosen hz rec) window phases out a phases′ out′) code
-
--- the window's samples: `audio::carrier_audio`
-abbrev pub CarrierAudioCall : ℕ → ℕ → ℕ → List Float → ℕ → ℕ → List Float → List Float → List Float
-    → ℕ → List Float → List Float → Type 0
-CarrierAudioCall hz rec frames symbols place window waves phases out code phases′ out′ =
-    HandsOn answerCode (λ a. CarrierAudio (chosen hz rec) frames symbols place window waves phases out a phases′ out′)
-    code
-
--- the payload bits of soft bits: `meter::payload_bits`
-abbrev pub PayloadBitsCall : ℕ → ℕ → List Float → List ℕ → ℕ → List ℕ → Type 0
-PayloadBitsCall hz rec soft out code out′ = HandsOn answerCode (λ a. PayloadBits (chosen hz rec) soft out a out′) code
-
--- ---- the meter
--- the count is written only where there is one
-pub record MeterCall (hz rec : ℕ) (sent read : List ℕ) (differing code differing′ : ℕ) : Type 0 where
-  pub code-is : code ≡ codeOf (metered (chosen hz rec) sent read)
-  pub differing-is : differing′ ≡ after (metered (chosen hz rec) sent read) (λ d. d) differing
 
 -- ---- a layout
 -- 11: the lent numbers are not `count`

@@ -1,13 +1,12 @@
-// The open calls for C (include/dimpstea.h): each answers 0, or the number of the first condition met.
+// The open calls for C that take or give a layout, a state or a hold as numbers (include/dimpstea.h): each answers 0,
+// or the number of the first condition met.
 ghost use mathlib.Core.Path.{_≡_};
 ghost use mathlib.Core.List.{[]};
-ghost use Rattle.psk.specs.Symbols.{sending};
 ghost use Rattle.rx.specs.Feed.{given};
 ghost use Rattle.reading.specs.Read.{asked};
 ghost use Rattle.modem_c.specs.Numbers.{stateOf};
 ghost use Rattle.modem_c.specs.Calls.{candidateOf, lentRelease, lentState};
-ghost use Rattle.modem_c.specs.Calls.{LayoutCall, ModulateCall, NcoPhaseCall, CarrierAudioCall};
-ghost use Rattle.modem_c.specs.Calls.{PayloadBitsCall, MeterCall, OpenCall, FeedCall, OfferCall};
+ghost use Rattle.modem_c.specs.Calls.{LayoutCall, OpenCall, FeedCall, OfferCall};
 ghost use Rattle.modem_c.specs.ReadingCalls.{shortResult, LocateCall, ReadCall};
 
 mod numbers;
@@ -15,11 +14,9 @@ mod numbers;
 use hold::Candidate;
 use hold::LoneAnswer;
 use level::Chosen;
-use meter::Metered;
 use reading::LocateAnswer;
 use reading::ReadAnswer;
 use refusal::Fault;
-use refusal::Place;
 use refusal::Position;
 use refusal::Refusal;
 use rx::FeedAnswer;
@@ -42,78 +39,6 @@ pub extern "C" fn dimpstea_layout(bandwidth: u32, rec: u32, numbers: &mut [u64])
             0
         }
     }
-}
-
-// The rows of all carriers.
-#[no_mangle]
-pub extern "C" fn dimpstea_modulate(
-    bandwidth: u32,
-    rec: u32,
-    markers: &[u16],
-    phasors: &[f64],
-    frames: u32,
-    payload: &[u8],
-    draws: &[u8],
-    rows: &mut [f64],
-) -> u32
-    ensures { λ r. ⌜ ModulateCall bandwidth rec (sending (now (markers .entry)) (now (phasors .entry)) frames
-        (now (payload .entry)) (now (draws .entry))) (now (rows .entry)) r (now (rows .exit)) ⌝ }
-{
-    refusal::code(psk::modulate(
-        bandwidth,
-        rec,
-        markers,
-        phasors,
-        frames,
-        payload,
-        draws,
-        rows,
-    ))
-}
-
-// Each carrier's phase at each place of a window, and the phases after it.
-#[no_mangle]
-pub extern "C" fn dimpstea_nco_phase(
-    bandwidth: u32,
-    rec: u32,
-    window: usize,
-    phases: &mut [f32],
-    out: &mut [f32],
-) -> u32
-    ensures { λ r. ⌜ NcoPhaseCall bandwidth rec window (now (phases .entry)) (now (out .entry)) r (now (phases .exit))
-        (now (out .exit)) ⌝ }
-{
-    refusal::code(nco::nco_phase(bandwidth, rec, window, phases, out))
-}
-
-// The samples of a window of places, and the phases after it.
-#[no_mangle]
-pub extern "C" fn dimpstea_carrier_audio(
-    bandwidth: u32,
-    rec: u32,
-    frames: u32,
-    symbols: &[f64],
-    place: u64,
-    window: usize,
-    waves: &[f64],
-    phases: &mut [f32],
-    out: &mut [f64],
-) -> u32
-    ensures { λ r. ⌜ CarrierAudioCall bandwidth rec frames (now (symbols .entry)) place window (now (waves .entry))
-        (now (phases .entry)) (now (out .entry)) r (now (phases .exit)) (now (out .exit)) ⌝ }
-{
-    let at = Place(place);
-    refusal::code(audio::carrier_audio(
-        bandwidth,
-        rec,
-        frames,
-        symbols,
-        at,
-        window,
-        waves,
-        phases,
-        out,
-    ))
 }
 
 // A fresh receiver's state. Its length is met after the tables (1 to 7) and before start and turn book (15 and 16).
@@ -334,41 +259,6 @@ pub extern "C" fn dimpstea_read(
         ReadAnswer::Refused(r) => refusal::number(r),
         ReadAnswer::Read(f) => {
             numbers::write_reading(t, result, f);
-            0
-        }
-    }
-}
-
-// The payload that soft bits read as.
-#[no_mangle]
-pub extern "C" fn dimpstea_payload_bits(
-    bandwidth: u32,
-    rec: u32,
-    soft: &[f64],
-    out: &mut [u8],
-) -> u32
-    ensures { λ r. ⌜ PayloadBitsCall bandwidth rec (now (soft .entry)) (now (out .entry)) r (now (out .exit)) ⌝ }
-{
-    refusal::code(meter::payload_bits(bandwidth, rec, soft, out))
-}
-
-// The differing bits of a payload sent and a payload read.
-#[no_mangle]
-pub extern "C" fn dimpstea_meter(
-    bandwidth: u32,
-    rec: u32,
-    sent: &[u8],
-    read: &[u8],
-    differing: &mut u64,
-) -> u32
-    ensures { λ r. ⌜ MeterCall bandwidth rec (now (sent .entry)) (now (read .entry)) (now (differing .entry)) r
-        (now (differing .exit)) ⌝ }
-{
-    let metered = meter::meter(bandwidth, rec, sent, read);
-    match metered {
-        Metered::Refused(r) => refusal::number(r),
-        Metered::Differing(d) => {
-            *differing = d as u64;
             0
         }
     }

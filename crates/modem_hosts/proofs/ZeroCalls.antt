@@ -22,7 +22,7 @@ use Rattle.state.specs.declared.State.{State}
 use Rattle.reading.specs.declared.Reading.{Reading}
 use Rattle.reading.specs.declared.ReadAnswer.the-variants as rd
 use Rattle.reading.specs.Read.{Asked, symbolsRead, readFault, readBegun, gainFault, readAccepted, readOutcome, ReadBy}
-use Rattle.modem_c.specs.Calls.{answerCode, ModulateCall}
+use Rattle.calls_c.specs.Calls.{answerCode, ModulateCall}
 use Rattle.modem_c.specs.ReadingCalls.{readingNumbers, buffersWrong, shortResult, ReadCall}
 use Rattle.modem_hosts.proofs.Codes.{number-positive, Positive, judged-positive, chosen-positive, answers-zero}
 

@@ -14,7 +14,8 @@ use Rattle.reading.specs.Read.{Asked}
 use Rattle.modem.specs.Ideal.{accepted, verdicts}
 use Rattle.modem.specs.Received.{receivedStep, ReadingFollows}
 use Rattle.modem.specs.FrameRead.{FrameRead}
-use Rattle.modem_c.specs.Calls.{LentState, OpenCall, ModulateCall}
+use Rattle.calls_c.specs.Calls.{ModulateCall}
+use Rattle.modem_c.specs.Calls.{LentState, OpenCall}
 use Rattle.modem_c.specs.ReadingCalls.{readingNumbers, ReadCall}
 use Rattle.modem_hosts.specs.CallLists.{Reply, codes, handedOver, FeedCalls, stateSaid}
 

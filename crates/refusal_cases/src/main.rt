@@ -8,7 +8,6 @@ use level::Chosen;
 use libc::STDOUT_FILENO;
 use meter::Metered;
 use refusal::Answer;
-use refusal::Answer;
 use refusal::Place;
 use refusal::Position;
 use rx::OpenAnswer;

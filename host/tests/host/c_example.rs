@@ -14,7 +14,7 @@ fn the_example_in_c_sends_and_receives() {
         .arg(root.join("examples/send_and_receive.c"))
         .arg("-L")
         .arg(library)
-        .args(["-lmodem_c", "-lm", "-o"])
+        .args(["-lcalls_c", "-lmodem_c", "-lm", "-o"])
         .arg(&program)
         .output()
         .expect("a C compiler, cc");

@@ -1,4 +1,4 @@
--- `modem_c::dimpstea_meter` meets its contract: the number of the refusal, or 0 and the count. Assumes nothing.
+-- `calls_c::dimpstea_meter` meets its contract: the number of the refusal, or 0 and the count. Assumes nothing.
 use Prim.Native.Nat.{ℕ}
 use mathlib.Core.Path.{_≡_, sym, ap, _∙_}
 use mathlib.Core.List.{List}
@@ -9,10 +9,10 @@ use Rattle.level.specs.Layout.{chosen}
 use Rattle.meter.specs.declared.Metered.{Metered}
 use Rattle.meter.specs.declared.Metered.the-variants.{Differing, Refused}
 use Rattle.meter.specs.Meter.{outcome, metered}
-use Rattle.modem_c.specs.Calls.{MeterCall}
+use Rattle.calls_c.specs.Calls.{MeterCall}
 use borrow.Author.Needs.{needs}
-use Rattle.modem_c.proofs.dimpstea_meter.Statement.{statement}
-use Rattle.modem_c.proofs.dimpstea_meter.Tie as tie
+use Rattle.calls_c.proofs.dimpstea_meter.Statement.{statement}
+use Rattle.calls_c.proofs.dimpstea_meter.Tie as tie
 
 module _ (hz rec : ℕ) (sent read : List ℕ) (before : ℕ) (m : Metered) (e : outcome m ≡ metered (chosen hz rec) sent read) where
   refuses : (r : Refusal) → m ≡ Refused r → (code : ℕ) → code ≡ numberOf r → MeterCall hz rec sent read before code before
