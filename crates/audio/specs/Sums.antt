@@ -1,4 +1,4 @@
--- Sums of some entries: "Sums start at zero and run in index order" (01, "Records and number forms"). Definitions only.
+-- Sums of some entries (01: "Sums start at zero and run in index order"). Definitions only.
 use Prim.Native.Nat.{ℕ, zero, suc}
 use mathlib.Core.Bool.{Bool, cond}
 

@@ -1,5 +1,4 @@
--- What each call for C answers that keeps no state, and what the buffers that it was lent hold afterwards. Definitions
--- only.
+-- The calls for C that keep no state: what each answers, and what its buffers hold afterwards. Definitions only.
 use Prim.Native.Nat.{ℕ}
 use mathlib.Core.Path.{_≡_}
 use mathlib.Core.List.{List}

@@ -44,7 +44,8 @@ use Rattle.marks.specs.PlaceLaws.{place-at, in-frame, places-count, symbol-plac
 use Rattle.marks.specs.Products.{markedPlace, productAt}
 use Rattle.soft.specs.SoftCells.{softCells}
 use Rattle.soft.specs.SoftCells as soft
-use Rattle.decode.specs.Steps.{symbolIn, markCells, coherentAt, coherence, coherenceTurn, stepFrom, stepCount, stepPlace, undivided, scratchOf}
+use Rattle.decode.specs.Steps.{symbolIn, markCells, coherentAt, coherence, coherenceTurn}
+use Rattle.decode.specs.Steps.{stepFrom, stepCount, stepPlace, undivided, scratchOf}
 use Rattle.decode.specs.Noise.{varianceIn}
 use Rattle.decode.specs.SoftBits.{dataCells, cellOf, softIn}
 use Rattle.decode.specs.Median.{productOf, markerProduct, phaseMedian}

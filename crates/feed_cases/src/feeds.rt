@@ -18,7 +18,8 @@ pub enum Rule {
     Small,
 }
 
-// What has been fed: how many samples, the places of the log that are taken, and whether each feed was answered as it should be.
+// What has been fed: how many samples, the places of the log that are taken, and whether each feed was answered as it
+// should be.
 pub struct Progress {
     pub fed: usize,
     pub logged: usize,
@@ -129,7 +130,8 @@ fn noted(r: Progress, refused: bool, answer: FeedAnswer, len: usize, row: &mut [
     }
 }
 
-// Forty turns, each a refused feed of 4,000 samples, whose last part is no number, and then the next of the signal; those past its end are empty.
+// Forty turns, each a refused feed of 4,000 samples, whose last part is no number, and then the next of the signal;
+// those past its end are empty.
 fn feed_all(
     rule: Rule,
     markers: &[u16],

@@ -1,4 +1,5 @@
-// One signal of two frames, fed in three cuttings to receivers over memory of other content: each finds the same detections.
+// One signal of two frames, fed in three cuttings to receivers over memory of other content: each finds the same
+// detections.
 ghost use Prim.Native.Nat.{_^_, _≤_};
 ghost use lib.ListN.{length};
 

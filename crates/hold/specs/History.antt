@@ -53,8 +53,8 @@ Quiet hold block os =
     → Greatest block before d → o .position .0 ≤ d .position .0 + hold
 
 -- The releases of a list of offers, where nothing is held. The offers `since` stand "strictly between release offers".
--- The release comes at the first offer o more than `hold` past the greatest candidate d, and "sets the block to b + dead",
--- where b is d's position. The candidate of o is in no later list: "p's own candidate is then dropped".
+-- The release comes at the first offer o more than `hold` past the greatest candidate d, and "sets the block to b +
+-- dead", where b is d's position. The candidate of o is in no later list: "p's own candidate is then dropped".
 pub data History (hold dead : ℕ) : Block → List Offer → List Detection → Type 0 where
   none-due : {block : Block} {os : List Offer} → Quiet hold block os → History hold dead block os []
   release-at : {block : Block} {os : List Offer} {d : Detection} {ds : List Detection}

@@ -1,9 +1,11 @@
 -- The PSK rows of hf/level.rs, and the one that a bandwidth and a record choose (01, "Layouts"). Definitions only.
 use Prim.Native.Nat.{ℕ}
-use mathlib.Core.Bool.{Bool, _&&_, _||_, cond}
+use mathlib.Core.Bool.{Bool, _&&_, _||_, not, cond}
 use mathlib.Core.List.{List, [], _∷_}
 use lib.Dec.{leb, eqb}
-use Rattle.refusal.specs.Outcome.{Outcome, refused, answered}
+use Rattle.refusal.specs.declared.Refusal.the-variants as no
+use Rattle.refusal.specs.Refusal.{numberOf}
+use Rattle.refusal.specs.Outcome.{Outcome, refused, answered, firstFault, judged}
 
 -- a row's pulse: raised cosine, or root raised cosine of span 1 or 2
 pub data Pulse : Type 0 where
@@ -59,7 +61,7 @@ levels =
 
 -- 2: "record isn't PSK there"
 abbrev pub lookup : ℕ → ℕ → List Level → Outcome Level
-lookup hz rec [] = refused 2
+lookup hz rec [] = refused (numberOf no.NotPsk)
 lookup hz rec (l ∷ ls) = cond (eqb hz (l .bandwidth) && eqb rec (l .rec)) (answered l) (lookup hz rec ls)
 
 abbrev pub isBandwidth : ℕ → Bool
@@ -70,4 +72,4 @@ isRecord rec = leb 1 rec && leb rec 17
 
 -- 1: "bandwidth not 500, 2300, 2750, or record not 1 to 17"
 unfoldable pub levelOf : ℕ → ℕ → Outcome Level
-levelOf hz rec = cond (isBandwidth hz && isRecord rec) (lookup hz rec levels) (refused 1)
+levelOf hz rec = judged (firstFault ((no.Level, not (isBandwidth hz && isRecord rec)) ∷ [])) (lookup hz rec levels)

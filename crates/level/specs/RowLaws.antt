@@ -1,11 +1,12 @@
 -- What a bandwidth and a record choose is one of fifteen rows: a test computed over them holds of it. Assumes nothing.
 use Prim.Native.Nat.{ℕ, _≤_}
 use mathlib.Core.Path.{_≡_, refl, sym, ap, _∙_}
-use mathlib.Core.Bool.{Bool, true, false, _&&_, cond}
+use mathlib.Core.Bool.{Bool, true, false, _&&_, not, cond}
 use mathlib.Core.List.{List, [], _∷_}
 use native.Mathlib.Omega.{arith}
 use lib.Dec.{T, leb, eqb, leb→le, eqb→eq}
-use Rattle.refusal.specs.Outcome.{Outcome, refused, answered, andThen}
+use Rattle.refusal.specs.declared.Refusal.the-variants as no
+use Rattle.refusal.specs.Outcome.{Outcome, refused, answered, andThen, firstFault, judged}
 use Rattle.level.specs.declared.Layout.{Layout}
 use Rattle.level.specs.Level.{Level, levels, lookup, isBandwidth, isRecord, levelOf}
 use Rattle.level.specs.Layout.{layoutOf, chosen}
@@ -49,7 +50,8 @@ module _ (hz rec : ℕ) (m : Level) where
   unfolding levelOf
   looked e = go (isBandwidth hz && isRecord rec) e
     where
-      go : (b : Bool) → cond b (lookup hz rec levels) (refused 1) ≡ answered m → lookup hz rec levels ≡ answered m
+      go : (b : Bool) → judged (firstFault ((no.Level, not b) ∷ [])) (lookup hz rec levels) ≡ answered m
+          → lookup hz rec levels ≡ answered m
       go true g = g
       go false g = never g
 

@@ -20,8 +20,8 @@ abbrev pub EachAsOpened : List ℕ → List Float → List Float → List Feed �
 EachAsOpened markers phasors book fs = (f : Feed) → List·Memᴰ f fs → AsOpened markers phasors book f
 
 -- "Two fresh receivers with the same opening, tables and turn book": of layout l, each with a memory of its own and
--- calls of its own choosing, refused ones and empty feeds among them. Which calls are accepted is told by what they are
--- given; each accepted one brings the opening's tables and its turn book.
+-- calls of its own choosing, refused ones and empty feeds among them. Which calls are accepted is told by what they
+-- are given; each accepted one brings the opening's tables and its turn book.
 pub record TwoReceivers (h k : Session) (l : Layout) : Type 0 where
   pub first : InRoom h l
   pub second : InRoom k l

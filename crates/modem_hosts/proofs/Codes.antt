@@ -1,7 +1,7 @@
 -- No refusal has the code 0, so a host that reads releases by it reads what was released. Assumes nothing.
 use Prim.Native.Nat.{ℕ, _<_}
 use mathlib.Core.Path.{_≡_, refl}
-use mathlib.Core.Bool.{Bool, true, false, _&&_, cond}
+use mathlib.Core.Bool.{Bool, true, false, not, _&&_, cond}
 use mathlib.Core.List.{List, [], _∷_}
 use native.Mathlib.Omega.{arith}
 use lib.Dec.{eqb}
@@ -11,7 +11,7 @@ use Rattle.refusal.specs.declared.Refusal.the-variants as no
 use Rattle.refusal.specs.declared.Fault.{Fault}
 use Rattle.refusal.specs.declared.Fault.the-variants.{Clear, Met}
 use Rattle.refusal.specs.Refusal.{numberOf}
-use Rattle.refusal.specs.Outcome.{Outcome, refused, answered, andThen, judged, codeOf}
+use Rattle.refusal.specs.Outcome.{Outcome, refused, answered, andThen, firstFault, judged, codeOf}
 use Rattle.level.specs.Level.{Level, levels, lookup, isBandwidth, isRecord, levelOf}
 use Rattle.level.specs.Layout.{layoutOf, chosen}
 use Rattle.hold.specs.declared.Release.{Release}
@@ -91,7 +91,7 @@ module _ (hz rec : ℕ) where
   unfolding levelOf
   level-positive = go (isBandwidth hz && isRecord rec)
     where
-      go : (b : Bool) → Positive (cond b (lookup hz rec levels) (refused 1))
+      go : (b : Bool) → Positive (judged (firstFault ((no.Level, not b) ∷ [])) (lookup hz rec levels))
       go true = lookup-positive levels
       go false = omega arith
 

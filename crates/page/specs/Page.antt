@@ -8,8 +8,8 @@ use Rattle.level.specs.declared.Layout.{Layout}
 use Rattle.level.specs.Level.{Level, levels, psk, rc}
 use Rattle.level.specs.Layout.{layoutOf}
 
--- "right-aligned and filled with blanks": the byte of n at place k from the right, its digit there, or a blank where it
--- has none
+-- "right-aligned and filled with blanks": the byte of n at place k from the right, its digit there, or a blank where
+-- it has none
 unfoldable pub digitAt : ℕ → ℕ → ℕ
 digitAt n k = cond (leb (10 ^ k) n || eqb k 0) (48 + n / 10 ^ k % 10) 32
 

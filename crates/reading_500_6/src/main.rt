@@ -7,7 +7,8 @@ use refusal::Position;
 use rx::OpenAnswer;
 use rx::State;
 
-// Where the last symbol of carrier 0 stands in the memory, for a frame at position 1064, at which the filtered track begins.
+// Where the last symbol of carrier 0 stands in the memory, for a frame at position 1064, at which the filtered track
+// begins.
 const LAST: usize = 36192 + 32 * 374;
 
 // Where that of the frame sent does, at 1971.

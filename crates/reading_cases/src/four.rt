@@ -9,7 +9,8 @@ use refusal::Position;
 use rx::OpenAnswer;
 use rx::State;
 
-// Where the last symbol of carrier 0 stands in the memory, for a frame at position 1016, at which the filtered track begins.
+// Where the last symbol of carrier 0 stands in the memory, for a frame at position 1016, at which the filtered track
+// begins.
 const LAST: usize = 37344 + 32 * 392;
 
 // Where that of the frame sent first does, at 1965.
@@ -187,7 +188,8 @@ fn damaged(markers: &[u16], phasors: &[f64], s: State, memory: &mut [f64], paylo
     read_plain(name, markers, phasors, s, memory, 1966, payload, 0);
 }
 
-// A reading of memory full of 1, save for the last symbol of carrier 0 at the first of the equal positions; and that symbol's soft bit.
+// A reading of memory full of 1, save for the last symbol of carrier 0 at the first of the equal positions; and that
+// symbol's soft bit.
 fn tied(name: &[u8], markers: &[u16], s: State, memory: &mut [f64], re: f64, im: f64) {
     let payload = [0u8; 748];
     let none = [0.0; 2];

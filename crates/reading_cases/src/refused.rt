@@ -27,7 +27,8 @@ pub fn ends(markers: &[u16], phasors: &[f64], s: State, memory: &[f64], payload:
     end(b"t0 15221", markers, phasors, s, memory, 15221, payload);
 }
 
-// 22's clause on drift rows: a state whose samples begin at t0 - 20, and at one later. The memory stays, so that the first reads other samples than the frame's.
+// 22's clause on drift rows: a state whose samples begin at t0 - 20, and at one later. The memory stays, so that the
+// first reads other samples than the frame's.
 pub fn samples(
     markers: &[u16],
     phasors: &[f64],

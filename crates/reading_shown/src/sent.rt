@@ -20,7 +20,9 @@ fn two_frames_in(
     clean: &mut [f64],
     noisy: &mut [f64],
 ) -> Answer
-    requires { ⌜ IsLayout l × (length (now book) ≡ 6000) × (length (now markers) ≡ entries l) × (length (now rows) ≡ rowNumbers l 2) × (length (now clean) ≤ 2 ^ 32) × (length (now noisy) ≤ 2 ^ 32) ⌝ }
+    requires { ⌜ IsLayout l × (length (now book) ≡ 6000) × (length (now markers) ≡ entries l)
+        × (length (now rows) ≡ rowNumbers l 2) × (length (now clean) ≤ 2 ^ 32)
+        × (length (now noisy) ≤ 2 ^ 32) ⌝ }
 {
     replay_inputs::book(book);
     let r = replay_inputs::send(l, 2, book, markers, phasors, payload, draws, rows);
@@ -38,7 +40,8 @@ pub fn two_frames(
     clean: &mut [f64],
     noisy: &mut [f64],
 ) -> Answer
-    requires { ⌜ (length (now book) ≡ 6000) × (length (now markers) ≡ 822) × (length (now clean) ≤ 2 ^ 32) × (length (now noisy) ≤ 2 ^ 32) ⌝ }
+    requires { ⌜ (length (now book) ≡ 6000) × (length (now markers) ≡ 822) × (length (now clean) ≤ 2 ^ 32)
+        × (length (now noisy) ≤ 2 ^ 32) ⌝ }
 {
     let mut draws = [0u8; 20];
     let mut rows = [0.0; 3180];
@@ -70,7 +73,8 @@ fn one_frame_in(
     rows: &mut [f64],
     clean: &mut [f64],
 ) -> Answer
-    requires { ⌜ IsLayout l × (length (now book) ≡ 6000) × (length (now markers) ≡ entries l) × (length (now rows) ≡ rowNumbers l 1) × (length (now clean) ≤ 2 ^ 32) ⌝ }
+    requires { ⌜ IsLayout l × (length (now book) ≡ 6000) × (length (now markers) ≡ entries l)
+        × (length (now rows) ≡ rowNumbers l 1) × (length (now clean) ≤ 2 ^ 32) ⌝ }
 {
     replay_inputs::book(book);
     let r = replay_inputs::send(l, 1, book, markers, phasors, payload, draws, rows);

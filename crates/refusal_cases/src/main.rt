@@ -186,7 +186,8 @@ fn phases() {
     try_phase(16, &mut phases, &mut out);
 }
 
-// Symbol rows of size 256 and 256.5, no number, one short; the last window of 16 places and one past it; windows of 4,097; a wave of 1.5, waves one short; a phase that is no number.
+// Symbol rows of size 256 and 256.5, no number, one short; the last window of 16 places and one past it; windows of
+// 4,097; a wave of 1.5, waves one short; a phase that is no number.
 fn audios() {
     let mut symbols = [256.0; 1608];
     let mut waves = [1.0; 64];

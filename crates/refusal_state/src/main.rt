@@ -1,5 +1,6 @@
-// Refused feeds against a receiver that holds a candidate: each answers its number, and leaves state and memory as they were.
-// Both comparisons can fail: the feeds that are accepted, printed as 0, say `both different`, and a refused one that changed a field of the state or a number of the memory would say which.
+// Refused feeds against a receiver that holds a candidate: each answers its number, and leaves state and memory as
+// they were. Both comparisons can fail: the feeds that are accepted, printed as 0, say `both different`, and a refused
+// one that changed a field of the state or a number of the memory would say which.
 ghost use mathlib.Core.Path.{_≡_};
 ghost use Prim.Native.Nat.{_*_, _<_, _≤_};
 ghost use lib.ListN.{length};

@@ -1,4 +1,5 @@
-// The 48 kHz signal of one frame in the layouts 500/4 and 500/6, at three windows each: its start, its middle and its end.
+// The 48 kHz signal of one frame in the layouts 500/4 and 500/6, at three windows each: its start, its middle and its
+// end.
 ghost use mathlib.Core.Path.{_≡_};
 ghost use Prim.Native.Nat.{_*_, _≤_};
 ghost use lib.ListN.{length};
@@ -40,7 +41,8 @@ fn phases_after(rec: u32, lead: usize, phases: &mut [f32], angles: &mut [f32]) {
     }
 }
 
-// A wave for each of the first `count` phases: the entry of the turn book that its bits choose, so that no other sine is needed.
+// A wave for each of the first `count` phases: the entry of the turn book that its bits choose, so that no other sine
+// is needed.
 fn put_waves(book: &[f64], count: usize, angles: &[f32], waves: &mut [f64])
     requires { ⌜ (length (now book) ≡ 6000) × (count ≤ length (now angles)) × (2 * count ≤ length (now waves)) ⌝ }
 {
@@ -142,7 +144,8 @@ fn count_of(nc: usize, w: Window) -> usize
     nc * w.len
 }
 
-// A window over buffers for 4,000 places of nc carriers. The waves are made from phases that are then set back to the window's start.
+// A window over buffers for 4,000 places of nc carriers. The waves are made from phases that are then set back to the
+// window's start.
 fn show_window(
     rec: u32,
     nc: usize,
@@ -154,7 +157,8 @@ fn show_window(
     waves: &mut [f64],
     samples: &mut [f64],
 )
-    requires { ⌜ (nc ≤ 3) × (length (now book) ≡ 6000) × (length (now angles) ≡ nc * 4000) × (length (now waves) ≡ 2 * (nc * 4000)) × (length (now samples) ≡ 4000) × Within w ⌝ }
+    requires { ⌜ (nc ≤ 3) × (length (now book) ≡ 6000) × (length (now angles) ≡ nc * 4000)
+        × (length (now waves) ≡ 2 * (nc * 4000)) × (length (now samples) ≡ 4000) × Within w ⌝ }
 {
     let count = count_of(nc, w);
     let parts = 2 * count;
@@ -203,7 +207,8 @@ fn show_windows(
     waves: &mut [f64],
     samples: &mut [f64],
 )
-    requires { ⌜ (nc ≤ 3) × (length (now book) ≡ 6000) × (length (now angles) ≡ nc * 4000) × (length (now waves) ≡ 2 * (nc * 4000)) × (length (now samples) ≡ 4000) × Within last ⌝ }
+    requires { ⌜ (nc ≤ 3) × (length (now book) ≡ 6000) × (length (now angles) ≡ nc * 4000)
+        × (length (now waves) ≡ 2 * (nc * 4000)) × (length (now samples) ≡ 4000) × Within last ⌝ }
 {
     let mut k = 0;
     while k < 3 {

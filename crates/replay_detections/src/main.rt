@@ -1,4 +1,5 @@
-// The detections in a signal of two frames in the layout 500/6, from feeds of 4,000 samples to a receiver over memory of no numbers.
+// The detections in a signal of two frames in the layout 500/6, from feeds of 4,000 samples to a receiver over memory
+// of no numbers.
 ghost use Prim.Native.Nat.{_^_, _<_, _≤_};
 ghost use lib.ListN.{length};
 use hold::Release;

@@ -1,4 +1,5 @@
-// Inputs of the programs that replay: tables, payloads and signals by a fixed rule, so that any other implementation can make them again. And how such programs compare.
+// Inputs of the programs that replay: tables, payloads and signals by a fixed rule, so that any other implementation
+// can make them again. And how such programs compare.
 ghost use mathlib.Core.Path.{_≡_};
 ghost use Prim.Native.Nat.{_+_, _*_, _/_, _%_, _^_, _<_, _≤_};
 ghost use lib.ListN.{length};
@@ -102,7 +103,8 @@ fn value(l: Layout, i: usize, x: u64) -> usize
 
 // Value v of carrier c at place i, and its flag.
 fn mark(l: Layout, c: usize, i: usize, v: usize, out: &mut [u16])
-    requires { ⌜ Sized l × (c < l .nc) × (i < l .markers) × (5 ≤ v) × (v + 4 ≤ l .spf) × (length (now out) ≡ entries l) ⌝ }
+    requires { ⌜ Sized l × (c < l .nc) × (i < l .markers) × (5 ≤ v) × (v + 4 ≤ l .spf)
+        × (length (now out) ≡ entries l) ⌝ }
 {
     out[c * l.markers + i] = v as u16;
     out[l.nc * l.markers + (c * l.nsym + (v - 2))] = 1;
@@ -135,7 +137,8 @@ pub fn markers(l: Layout, x: u64, out: &mut [u16]) -> u64
     state
 }
 
-// What carrier c brings to sample n: its row's symbol for 32 samples each, `lead` samples and its stagger late, turned to the carrier.
+// What carrier c brings to sample n: its row's symbol for 32 samples each, `lead` samples and its stagger late, turned
+// to the carrier.
 fn carrier_part(
     l: Layout,
     rows: &[f64],
@@ -145,7 +148,8 @@ fn carrier_part(
     c: usize,
     n: usize,
 ) -> Complex
-    requires { ⌜ IsLayout l × (c < l .nc) × (frames ≤ 4) × (length (now rows) ≡ rowNumbers l frames) × (length (now book) ≡ 6000) × (lead ≤ 2 ^ 32) × (n ≤ 2 ^ 32) ⌝ }
+    requires { ⌜ IsLayout l × (c < l .nc) × (frames ≤ 4) × (length (now rows) ≡ rowNumbers l frames)
+        × (length (now book) ≡ 6000) × (lead ≤ 2 ^ 32) × (n ≤ 2 ^ 32) ⌝ }
 {
     let from = lead + level::stagger(l.nc, c) as usize;
     if n < from {
@@ -163,7 +167,8 @@ fn carrier_part(
 
 // Sample n with no noise: the carriers' parts in order.
 fn sample(l: Layout, rows: &[f64], frames: usize, book: &[f64], lead: usize, n: usize) -> Complex
-    requires { ⌜ IsLayout l × (frames ≤ 4) × (length (now rows) ≡ rowNumbers l frames) × (length (now book) ≡ 6000) × (lead ≤ 2 ^ 32) × (n ≤ 2 ^ 32) ⌝ }
+    requires { ⌜ IsLayout l × (frames ≤ 4) × (length (now rows) ≡ rowNumbers l frames)
+        × (length (now book) ≡ 6000) × (lead ≤ 2 ^ 32) × (n ≤ 2 ^ 32) ⌝ }
 {
     let mut z = complex::zero();
     let mut c = 0;
@@ -190,7 +195,8 @@ pub fn signal(
     x: u64,
     out: &mut [f64],
 ) -> u64
-    requires { ⌜ IsLayout l × (frames ≤ 4) × (length (now rows) ≡ rowNumbers l frames) × (length (now book) ≡ 6000) × (lead ≤ 2 ^ 32) × (length (now out) ≤ 2 ^ 32) ⌝ }
+    requires { ⌜ IsLayout l × (frames ≤ 4) × (length (now rows) ≡ rowNumbers l frames)
+        × (length (now book) ≡ 6000) × (lead ≤ 2 ^ 32) × (length (now out) ≤ 2 ^ 32) ⌝ }
 {
     let mut state = x;
     let mut n = 0;
@@ -208,7 +214,8 @@ pub fn signal(
 
 // The samples that rows of symbols give, with no noise.
 pub fn clean(l: Layout, rows: &[f64], frames: usize, book: &[f64], lead: usize, out: &mut [f64])
-    requires { ⌜ IsLayout l × (frames ≤ 4) × (length (now rows) ≡ rowNumbers l frames) × (length (now book) ≡ 6000) × (lead ≤ 2 ^ 32) × (length (now out) ≤ 2 ^ 32) ⌝ }
+    requires { ⌜ IsLayout l × (frames ≤ 4) × (length (now rows) ≡ rowNumbers l frames)
+        × (length (now book) ≡ 6000) × (lead ≤ 2 ^ 32) × (length (now out) ≤ 2 ^ 32) ⌝ }
 {
     let mut n = 0;
     while n < out.len() / 2 {
@@ -224,7 +231,8 @@ pub struct Sending {
     pub state: u64,
 }
 
-// Rows of frames from seed 1 on: the marker table, the phasors, payload and draws one after the other, as much of each as there is room for.
+// Rows of frames from seed 1 on: the marker table, the phasors, payload and draws one after the other, as much of each
+// as there is room for.
 pub fn send(
     l: Layout,
     frames: u32,
@@ -266,7 +274,8 @@ fn two_frames_in(
     rows: &mut [f64],
     out: &mut [f64],
 ) -> Answer
-    requires { ⌜ IsLayout l × (length (now turns) ≡ 6000) × (length (now marks) ≡ entries l) × (length (now rows) ≡ rowNumbers l 2) × (length (now out) ≤ 2 ^ 32) ⌝ }
+    requires { ⌜ IsLayout l × (length (now turns) ≡ 6000) × (length (now marks) ≡ entries l)
+        × (length (now rows) ≡ rowNumbers l 2) × (length (now out) ≤ 2 ^ 32) ⌝ }
 {
     book(turns);
     let r = send(l, 2, turns, marks, turned, payload, draws, rows);
@@ -274,7 +283,8 @@ fn two_frames_in(
     r.sent
 }
 
-// Two frames in the layout 500/4, from seed 1 on: the turn book, the marker table, the phasors, then payload, draws and signal.
+// Two frames in the layout 500/4, from seed 1 on: the turn book, the marker table, the phasors, then payload, draws
+// and signal.
 pub fn two_frames(
     turns: &mut [f64],
     marks: &mut [u16],
@@ -360,7 +370,8 @@ pub fn fill(memory: &mut [f64], value: f64) {
     }
 }
 
-// 31 h + b, modulo 2^64, the product by halves of 32 bits; then the halves change places, so that two signs don't cancel.
+// 31 h + b, modulo 2^64, the product by halves of 32 bits; then the halves change places, so that two signs don't
+// cancel.
 fn mix(h: u64, b: u64) -> u64 {
     let upper = h / 0x1_0000_0000 * 31 % 0x1_0000_0000 * 0x1_0000_0000;
     let product = std::num::wrapping_add_u64(h % 0x1_0000_0000 * 31, upper);

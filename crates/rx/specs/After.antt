@@ -431,7 +431,8 @@ module _ (l : Layout) (i : IsLayout l) (s s′ : State) (memory memory′ : List
       → Sound l s′
   sound-after w few soon b r e =
       let z : Sized l = sized l i in
-      sound-then l z s w f (chiAfter l f (view l s memory)) few soon s′ b r (numbers-after l z s s′ memory memory′ w f few e)
+      sound-then l z s w f (chiAfter l f (view l s memory)) few soon s′ b r
+      (numbers-after l z s s′ memory memory′ w f few e)
 
 -- ... and so is a fresh receiver's state.
 pub sound-opened : (l : Layout) → IsLayout l → (start : ℕ) → start ≤ 2 ^ 40 → Sound l (openedState l start)

@@ -36,7 +36,8 @@ fn place(l: Layout, filtered: Span, t: u64, c: usize, s: usize) -> usize
 
 // Symbol s of carrier c before its phasor, from the carrier's filtered track.
 fn filtered_symbol(l: Layout, memory: &[f64], filtered: Span, t: u64, c: usize, s: usize) -> Complex
-    requires { ⌜ FilteredFit l filtered t × (length (now memory) ≡ 2 * memoryLength l) × (c < l .nc) × (s < l .nsym) ⌝ }
+    requires { ⌜ FilteredFit l filtered t × (length (now memory) ≡ 2 * memoryLength l) × (c < l .nc)
+        × (s < l .nsym) ⌝ }
     ensures { λ r. ⌜ r ≡ filteredSymbol l (filteredIn l (now (memory .entry)) filtered) t c s ⌝ }
 {
     complex::get(memory, place(l, filtered, t, c, s))

@@ -1,7 +1,7 @@
 -- `modem_c::dimpstea_open` meets its contract: the refusals before 11 come first, and those after it once the state's length is right. Assumes nothing.
 use Prim.Native.Nat.{ℕ, _<_, _≤_}
 use mathlib.Core.Path.{_≡_, refl, sym, ap, _∙_}
-use mathlib.Core.Bool.{Bool, true, false, _&&_, cond}
+use mathlib.Core.Bool.{Bool, true, false, not, _&&_, cond}
 use mathlib.Core.List.{List, [], _∷_}
 use native.Mathlib.Omega.{arith}
 use lib.Dec.{eqb}
@@ -13,7 +13,7 @@ use Rattle.refusal.specs.declared.Refusal.the-variants as no
 use Rattle.refusal.specs.declared.Fault.{Fault}
 use Rattle.refusal.specs.declared.Fault.the-variants.{Clear, Met}
 use Rattle.refusal.specs.Refusal.{numberOf}
-use Rattle.refusal.specs.Outcome.{Outcome, refused, answered, andThen, firstOf, orElse, judged}
+use Rattle.refusal.specs.Outcome.{Outcome, refused, answered, andThen, firstOf, firstFault, orElse, judged}
 use Rattle.level.specs.declared.Layout.{Layout}
 use Rattle.level.specs.Level.{Level, levels, lookup, isBandwidth, isRecord, levelOf}
 use Rattle.level.specs.Layout.{layoutOf, chosen}
@@ -71,7 +71,7 @@ module _ (hz rec : ℕ) where
   unfolding levelOf
   level-low = go (isBandwidth hz && isRecord rec)
     where
-      go : (b : Bool) → RefusedIn Low (cond b (lookup hz rec levels) (refused 1))
+      go : (b : Bool) → RefusedIn Low (judged (firstFault ((no.Level, not b) ∷ [])) (lookup hz rec levels))
       go true = lookup-low levels
       go false = omega arith
 
