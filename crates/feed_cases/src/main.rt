@@ -7,6 +7,7 @@ mod feeds;
 mod log;
 
 use feeds::Rule;
+use libc::STDOUT_FILENO;
 
 // The three cuttings, and whether their detections are alike.
 fn cuttings(markers: &[u16], phasors: &[f64], book: &[f64], memory: &mut [f64], signal: &[f64])
@@ -15,6 +16,7 @@ fn cuttings(markers: &[u16], phasors: &[f64], book: &[f64], memory: &mut [f64], 
     let mut even = [0u64; 16];
     let mut drawn = [0u64; 16];
     let mut small = [0u64; 16];
+    io::write_all(STDOUT_FILENO, b"feeds of 4,000 samples\n");
     feeds::cut(
         Rule::Even,
         0.0,
@@ -25,6 +27,7 @@ fn cuttings(markers: &[u16], phasors: &[f64], book: &[f64], memory: &mut [f64], 
         signal,
         &mut even,
     );
+    io::write_all(STDOUT_FILENO, b"feeds of drawn lengths\n");
     feeds::cut(
         Rule::Drawn,
         1.0,
@@ -35,6 +38,7 @@ fn cuttings(markers: &[u16], phasors: &[f64], book: &[f64], memory: &mut [f64], 
         signal,
         &mut drawn,
     );
+    io::write_all(STDOUT_FILENO, b"small feeds\n");
     feeds::cut(
         Rule::Small,
         0.0 / 0.0,

@@ -17,6 +17,11 @@ fn show(n: u32) {
     io::write_all(STDOUT_FILENO, &out);
 }
 
+fn title(name: &[u8]) {
+    io::write_all(STDOUT_FILENO, name);
+    io::write_all(STDOUT_FILENO, b"\n");
+}
+
 fn try_choose(bandwidth: u32, rec: u32) {
     let r = level::choose(bandwidth, rec);
     match r {
@@ -245,12 +250,20 @@ fn main() {
     let mut phasors = [0.0; 1572];
     let mut signal = [0.0; 2];
     replay_inputs::two_frames(&mut book, &mut markers, &mut phasors, &mut signal);
+    title(b"layouts");
     layouts();
+    title(b"payloads of the meter");
     payloads();
+    title(b"tables");
     tables();
+    title(b"sendings");
     sending(&markers);
+    title(b"phases");
     phases();
+    title(b"windows of audio");
     audios();
+    title(b"openings");
     openings(&markers);
+    title(b"lone offers");
     offers();
 }

@@ -9,6 +9,11 @@ fn show(input: &[u8]) {
     io::write_all(STDOUT_FILENO, &out[..n]);
 }
 
+fn title(name: &[u8]) {
+    io::write_all(STDOUT_FILENO, name);
+    io::write_all(STDOUT_FILENO, b"\n");
+}
+
 // What separates words, and where they end.
 fn words() {
     show(b"2 8 100 8 10 25 12 30 14 30 20 29 22 40 110 50 112 20 121 -");
@@ -108,9 +113,14 @@ fn limits() {
 }
 
 fn main() {
+    title(b"words");
     words();
+    title(b"heads");
     heads();
+    title(b"numbers");
     numbers();
+    title(b"offers");
     offers();
+    title(b"limits");
     limits();
 }
