@@ -1,9 +1,13 @@
 -- The carriers' phase steps (01, "Beside the chain"). Definitions only.
 use Prim.Native.Nat.{ℕ, _<_}
+use mathlib.Core.Path.{_≡_}
 use mathlib.Core.Bool.{cond}
 use mathlib.Core.List.{List, [], _∷_}
 use lib.Dec.{eqb}
-use lib.Ieee.{Float, binary32, ofBits}
+use lib.IntN.{pos}
+use lib.Ieee as Ieee
+use lib.Ieee.{Float, binary32, binary64, ofInt, ofBits, toBits}
+use Rattle.complex.specs.Lists.{Each}
 use Rattle.level.specs.declared.Layout.{Layout}
 use Rattle.level.specs.Lengths.{carrierHz}
 use Rattle.level.specs.Rows.{IsLayout}
@@ -43,3 +47,26 @@ tau = ofBits binary32 0x40c9_0fdb
 -- no carrier of a layout lacks its step
 unfoldable pub CarrierSteps : Type 0
 CarrierSteps = (l : Layout) → IsLayout l → (c : ℕ) → c < l .nc → 0 < stepBits (carrierHz l c) phaseSteps
+
+-- π, 2, 48000 and 1 as the nearest f64
+abbrev pub pi : Float
+pi = ofBits binary64 0x4009_21fb_5444_2d18
+
+abbrev pub two : Float
+two = ofInt binary64 (pos 2)
+
+abbrev pub rate : Float
+rate = ofInt binary64 (pos 48000)
+
+abbrev pub one : Float
+one = ofInt binary64 (pos 1)
+
+-- 2π × Hz / 48000 in f64, from left to right, then rounded to f32, as a product with 1 is
+unfoldable pub roundedStep : ℕ → Float
+roundedStep hz =
+    Ieee.mul binary32
+    (Ieee.div binary64 (Ieee.mul binary64 (Ieee.mul binary64 two pi) (ofInt binary64 (pos hz))) rate) one
+
+-- each printed pattern is that of the step so rounded
+unfoldable pub StepsRounded : Type 0
+StepsRounded = Each (λ e. toBits binary32 (roundedStep (e .0)) ≡ e .1) phaseSteps
