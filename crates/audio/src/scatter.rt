@@ -11,6 +11,8 @@ ghost use Rattle.audio.specs.Scatter.{isZero};
 ghost use Rattle.audio.specs.Audio.{sample};
 ghost use Rattle.audio.specs.Parts.{Among, First, Begun, Covered, pulses, pointOf, interpolatedOf};
 use complex::Complex;
+use refusal::Place;
+use refusal::Position;
 
 // Whether both parts are zeros, of either sign.
 fn is_zero(z: Complex) -> bool
@@ -133,27 +135,29 @@ fn sample_at(y: &[f64], first: usize, h: &[f64], t: usize, wave: Complex) -> f64
 // Adds the samples of n places from `place` on, whose waves stand from `from` on.
 pub fn add_samples(
     y: &[f64],
-    first: usize,
+    first: Position,
     h: &[f64],
-    place: usize,
+    place: Place,
     waves: &[f64],
     from: usize,
     n: usize,
     out: &mut [f64],
 )
     requires { ⌜
-        ((i : ℕ) → i < n → Covered (length (now y)) first (length (now h)) (place + i))
-        × (2 * (from + n) ≤ length (now waves)) × (n ≤ length (now out)) × (place < 2 ^ 40)
+        ((i : ℕ) → i < n → Covered (length (now y)) (first .0) (length (now h)) (place .0 + i))
+        × (2 * (from + n) ≤ length (now waves)) × (n ≤ length (now out)) × (place .0 < 2 ^ 40)
         ⌝ }
     ensures { λ _. ⌜
         now (out .exit) ≡ filled (λ i. add binary64 (getD (now (out .entry)) i nan)
-        (sample (interpolatedOf (now (y .entry)) first (now (h .entry)) (place + i))
+        (sample (interpolatedOf (now (y .entry)) (first .0) (now (h .entry)) (place .0 + i))
         (cget (now (waves .entry)) (from + i)))) n (now (out .entry))
         ⌝ }
 {
+    let point = first.0 as usize;
+    let at = place.0 as usize;
     let mut i = 0;
     while i < n {
-        out[i] = out[i] + sample_at(y, first, h, place + i, complex::get(waves, from + i));
+        out[i] = out[i] + sample_at(y, point, h, at + i, complex::get(waves, from + i));
         i += 1;
     }
 }

@@ -16,6 +16,7 @@ use super::scatter::first_reaching;
 use super::scatter::points;
 use level::Layout;
 use refusal::Place;
+use refusal::Position;
 
 // How many places of the window are before the end.
 fn places_before(end: usize, place: usize, window: usize) -> usize
@@ -37,21 +38,21 @@ fn carrier_points(
     c: usize,
     symbols: &[f64],
     h: &[f64],
-    first: usize,
+    first: Position,
     n: usize,
     y: &mut [f64],
 )
     requires { ⌜
         Row l frames (now symbols) c × (now h ≡ tabulate (senderTap (pulseOf (l .taps))) (l .taps))
-        × (first + n < 2 ^ 40) × (2 * n ≤ length (now y))
+        × (first .0 + n < 2 ^ 40) × (2 * n ≤ length (now y))
         ⌝ }
     ensures { λ _. ⌜
-        now (y .exit) ≡ cfilled (λ k. point l frames (now (symbols .entry)) c (first + k)) n (now (y .entry))
+        now (y .exit) ≡ cfilled (λ k. point l frames (now (symbols .entry)) c (first .0 + k)) n (now (y .entry))
         ⌝ }
 {
     let len = level::row_len(l, frames);
     let offset = level::stagger(l.nc, c) as usize;
-    points(symbols, c * len, len, offset, h, first, n, y)
+    points(symbols, c * len, len, offset, h, first.0 as usize, n, y)
 }
 
 // Adds carrier c's samples to those places of the window that are before its end, by way of room for its points.
@@ -88,11 +89,20 @@ fn add_through(
         c,
         symbols,
         h,
-        first,
+        Position(first as u64),
         (at + n) / 16 + 1 - first,
         y,
     );
-    add_samples(y, first, interp, at, waves, c * window, n, out)
+    add_samples(
+        y,
+        Position(first as u64),
+        interp,
+        place,
+        waves,
+        c * window,
+        n,
+        out,
+    )
 }
 
 // Adds carrier c's samples to the window.

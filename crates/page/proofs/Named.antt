@@ -1,13 +1,14 @@
 -- The page names each layout once, and its columns show every number whole. Assumes nothing.
 use Prim.Native.Nat.{ℕ, zero, suc, _+_, _*_, _<_}
 use mathlib.Core.Path.{_≡_, refl, sym, ap, _∙_}
-use mathlib.Core.Bool.{Bool, true, false, cond, _&&_, _||_}
+use mathlib.Core.Bool.{Bool, true, false, not, cond, _&&_, _||_}
 use mathlib.Core.List.{List, [], _∷_}
 use native.Mathlib.Omega.{arith}
 use lib.Dec.{T, eqb, leb}
 use lib.ListN.{length, getD}
 use borrow.Author.Tests.{eqb-true}
-use Rattle.refusal.specs.Outcome.{Outcome, refused, answered, andThen}
+use Rattle.refusal.specs.declared.Refusal.the-variants as no
+use Rattle.refusal.specs.Outcome.{Outcome, refused, answered, andThen, firstFault, judged}
 use Rattle.level.specs.declared.Layout.{Layout}
 use Rattle.level.specs.Level.{Level, levels, lookup, isBandwidth, isRecord, levelOf}
 use Rattle.level.specs.Layout.{layoutOf, chosen}
@@ -85,7 +86,8 @@ once-chosen hz rec = go (isBandwidth hz && isRecord rec) refl
     outer (refused k) = refl
 
     go : (b : Bool) → (isBandwidth hz && isRecord rec) ≡ b
-        → having hz rec levels ≡ onceIf (andThen (cond b (lookup hz rec levels) (refused 1)) (λ l. answered (layoutOf l)))
+        → having hz rec levels
+        ≡ onceIf (andThen (judged (firstFault ((no.Level, not b) ∷ [])) (lookup hz rec levels)) (λ l. answered (layoutOf l)))
     go true e = looked-up levels tt hz rec ∙ outer (lookup hz rec levels)
     go false e = none-else levels tt hz rec e
 

@@ -16,10 +16,10 @@ use Rattle.audio.proofs.scatter.add_samples.Statement.{statement}
 use Rattle.audio.proofs.scatter.add_samples.Tie as tie
 
 abbrev Inv-loop : tie.InvT-loop
-Inv-loop y first h place waves from n out₀ i₀ out i = (i ≤ n) × (length out ≡ length out₀) × (out ≡ filled (λ i. add binary64 (getD out₀ i nan) (sample (interpolatedOf y first h (place + i)) (cget waves (from + i)))) i out₀)
+Inv-loop y h waves from n out₀ point at i₀ out i = (i ≤ n) × (length out ≡ length out₀) × (out ≡ filled (λ i. add binary64 (getD out₀ i nan) (sample (interpolatedOf y point h (at + i)) (cget waves (from + i)))) i out₀)
 
 abbrev μ-loop : tie.MeasureT-loop
-μ-loop y first h place waves from n out₀ i₀ out i = n - i
+μ-loop y h waves from n out₀ point at i₀ out i = n - i
 
 loop-holds : tie.Need-loop-holds Inv-loop μ-loop
 loop-holds c = (omega arith, refl, filled-none _ _)
@@ -58,9 +58,9 @@ loop-again : tie.Need-loop-again Inv-loop μ-loop
 loop-again c =
     let s = c .before .before .before .before .before .before .before .before .before .args in
     let t = c .before .before .before .before .loop in
-    let f : ℕ → Float = λ i. add binary64 (getD (s .out .now) i nan) (sample (interpolatedOf (s .y .now) (s .first) (s .h .now) (s .place + i)) (cget (s .waves .now) (s .from + i))) in
+    let f : ℕ → Float = λ i. add binary64 (getD (s .out .now) i nan) (sample (interpolatedOf (s .y .now) (s .first .0) (s .h .now) (s .place .0 + i)) (cget (s .waves .now) (s .from + i))) in
     let still : getD (t .out) (t .i) nan ≡ getD (s .out .now) (t .i) nan = ap (λ (l : List Float). getD l (t .i) nan) (t .inv .2) ∙ filled-rest f (t .i) (t .i) (s .out .now) nan (omega arith) in
-    let more = c .sample-at .ensures ∙ ap (sample (interpolatedOf (s .y .now) (s .first) (s .h .now) (s .place + t .i))) (c .before .get .ensures) in
+    let more = c .sample-at .ensures ∙ ap (sample (interpolatedOf (s .y .now) (s .first .0) (s .h .now) (s .place .0 + t .i))) (c .before .get .ensures) in
     let value : add binary64 (getD (t .out) (t .i) nan) (c .sample-at .result) ≡ f (t .i) = ap (λ (x : Float). add binary64 x (c .sample-at .result)) still ∙ ap (add binary64 (getD (s .out .now) (t .i) nan)) more in (
       omega arith,
       simp length-set (t .inv .1),
@@ -73,7 +73,7 @@ same-length c = c .before .loop .inv .1
 returns : tie.Need-returns Inv-loop μ-loop
 returns c =
     let s = c .before .before .before .before .before .before .args in
-    let f : ℕ → Float = λ i. add binary64 (getD (s .out .now) i nan) (sample (interpolatedOf (s .y .now) (s .first) (s .h .now) (s .place + i)) (cget (s .waves .now) (s .from + i))) in
+    let f : ℕ → Float = λ i. add binary64 (getD (s .out .now) i nan) (sample (interpolatedOf (s .y .now) (s .first .0) (s .h .now) (s .place .0 + i)) (cget (s .waves .now) (s .from + i))) in
     let e : c .before .loop .i ≡ s .n = omega arith in
     c .before .loop .inv .2 ∙ ap (λ (k : ℕ). filled f k (s .out .now)) e
 
