@@ -56,7 +56,7 @@ fn carrier_points(
 }
 
 // Adds carrier c's samples to those places of the window that are before its end, by way of room for its points.
-fn add_through(
+fn add_carrier_with_room(
     l: Layout,
     frames: usize,
     c: usize,
@@ -127,8 +127,9 @@ fn add_carrier(
         (getD (now (out .entry)) i nan)) (length (now (out .entry)))
         ⌝ }
 {
+    // 4,096 places have at most 260 points, two numbers each
     let mut y = [0.0; 520];
-    add_through(l, frames, c, symbols, place, waves, h, interp, &mut y, out)
+    add_carrier_with_room(l, frames, c, symbols, place, waves, h, interp, &mut y, out)
 }
 
 // Adds every carrier's samples, in order, to a window of zeros.
@@ -181,7 +182,7 @@ fn interp_taps(out: &mut [f64])
 }
 
 // The audio of a window, by way of room for the taps.
-fn audio_through(
+fn audio_with_room(
     l: Layout,
     frames: usize,
     symbols: &[f64],
@@ -224,7 +225,7 @@ pub fn audio_window(
     let count = l.taps;
     let mut h = [0.0; 129];
     let mut interp = [0.0; 32];
-    audio_through(
+    audio_with_room(
         l,
         frames,
         symbols,

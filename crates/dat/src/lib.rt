@@ -113,7 +113,7 @@ fn bad_flags(l: Layout, table: &[u16], c: usize, set: &[u16]) -> bool
 }
 
 // The test of a carrier's flags, by way of room for what its values set.
-fn flags_through(l: Layout, table: &[u16], c: usize, set: &mut [u16]) -> bool
+fn flags_with_room(l: Layout, table: &[u16], c: usize, set: &mut [u16]) -> bool
     requires { ⌜ InTable l (now table) c × (wrongValue l (now table) ≡ false) × (now set ≡ replicate 452 0) ⌝ }
     ensures { λ r. ⌜ r ≡ any (badFlag l (now (table .entry)) c) (l .nsym) ⌝ }
 {
@@ -121,12 +121,12 @@ fn flags_through(l: Layout, table: &[u16], c: usize, set: &mut [u16]) -> bool
     bad_flags(l, table, c, set)
 }
 
-fn carrier_flags(l: Layout, table: &[u16], c: usize) -> bool
+fn bad_flag_on(l: Layout, table: &[u16], c: usize) -> bool
     requires { ⌜ InTable l (now table) c × (wrongValue l (now table) ≡ false) ⌝ }
     ensures { λ r. ⌜ r ≡ any (badFlag l (now (table .entry)) c) (l .nsym) ⌝ }
 {
     let mut set = [0u16; 452];
-    flags_through(l, table, c, &mut set)
+    flags_with_room(l, table, c, &mut set)
 }
 
 fn wrong_flag(l: Layout, table: &[u16]) -> bool
@@ -135,7 +135,7 @@ fn wrong_flag(l: Layout, table: &[u16]) -> bool
 {
     let mut c = 0;
     while c < l.nc {
-        if carrier_flags(l, table, c) {
+        if bad_flag_on(l, table, c) {
             return true;
         }
         c += 1;
@@ -288,7 +288,7 @@ fn spread(symbols: &[usize], out: &mut [usize])
 }
 
 // The kept cells of carrier c, by way of room for all its cells.
-fn kept_through(l: Layout, table: &[u16], c: usize, all: &mut [usize], out: &mut [usize])
+fn kept_with_room(l: Layout, table: &[u16], c: usize, all: &mut [usize], out: &mut [usize])
     requires { ⌜ Markers l (now table) × (c < l .nc) × (length (now all) ≡ cells l)
         × (0 < length (now out)) × (length (now out) ≤ length (now all)) ⌝ }
     ensures { λ _. ⌜ now (out .exit) ≡ thin (cellsOf l (now (table .entry)) c) (length (now (out .entry))) ⌝ }
@@ -304,7 +304,7 @@ pub fn carrier_kept(l: Layout, table: &[u16], c: usize, out: &mut [usize])
 {
     let count = l.nsym - 1 - l.markers;
     let mut all = [0usize; 450];
-    kept_through(l, table, c, &mut all[0..count], out)
+    kept_with_room(l, table, c, &mut all[0..count], out)
 }
 
 // The reference of symbol s of carrier c: its phasor times the conjugate of the one before.

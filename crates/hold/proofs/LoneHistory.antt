@@ -90,20 +90,20 @@ module _ (hold dead : ℕ) where
       go false e u = (offered-number o e, u)
 
   -- ---- what a list of lone offers to a hold h comes to
-  record Led (h : Hold) (os : List Offer) (h′ : Hold) (rs : List LoneAnswer) : Type 0 where
+  record LeadTo (h : Hold) (os : List Offer) (h′ : Hold) (rs : List LoneAnswer) : Type 0 where
     answers : loneAnswers rs ≡ map (loneVerdict hold dead) os
     leaves : h′ ≡ holdAfter h (acceptedOffers hold dead os)
     released : releasedBy rs ≡ releases h (acceptedOffers hold dead os)
 
-  module _ (h h₁ h′ : Hold) (o : Offer) (os : List Offer) (rs : List LoneAnswer) (rest : Kept hold dead h₁ → Led h₁ os h′ rs) (k : Kept hold dead h) where
+  module _ (h h₁ h′ : Hold) (o : Offer) (os : List Offer) (rs : List LoneAnswer) (rest : Kept hold dead h₁ → LeadTo h₁ os h′ rs) (k : Kept hold dead h) where
     led-next : (b : Bool) → badGiven hold dead o ≡ b → (a : LoneAnswer)
         → outcome a ≡ judged (firstFault ((no.Offer, b) ∷ [])) (answered (offered h (o .position) (o .candidate) .release))
         → h₁ ≡ unlessMet (firstFault ((no.Offer, b) ∷ [])) (offered h (o .position) (o .candidate) .next) h
-        → Led h (o ∷ os) h′ (a ∷ rs)
+        → LeadTo h (o ∷ os) h′ (a ∷ rs)
     unfolding outcome unlessMet loneAnswers loneVerdict acceptedOffers releasedBy holdAfter releases
     led-next true e (Answered r) d l = never (sym d)
     led-next true e (Refused f) d l =
-        let u : Led h os h′ rs = rw l at (rest (rw l k)) in
+        let u : LeadTo h os h′ rs = rw l at (rest (rw l k)) in
         record {
           answers = rw e (ap₂ (λ (v : Outcome Unit) (vs : List (Outcome Unit)). v ∷ vs) (let q : numberOf f ≡ 21 = cc in rw q refl) (u .answers));
           leaves = rw e (u .leaves);
@@ -119,7 +119,7 @@ module _ (hold dead : ℕ) where
           released = rw (e, q) (ap (released (offered h (o .position) (o .candidate) .release)) (u .released));
         }
 
-  lone-lead : {h h′ : Hold} {os : List Offer} {rs : List LoneAnswer} → LoneCalls h os h′ rs → Kept hold dead h → Led h os h′ rs
+  lone-lead : {h h′ : Hold} {os : List Offer} {rs : List LoneAnswer} → LoneCalls h os h′ rs → Kept hold dead h → LeadTo h os h′ rs
   unfolding loneAnswers acceptedOffers releasedBy holdAfter releases loneFault
   lone-lead none k = record { answers = refl; leaves = refl; released = refl }
   lone-lead (next {h = h} {h₁ = h₁} {h′ = h′} {o = o} {os = os} {a = a} {rs = rs} d c) k =

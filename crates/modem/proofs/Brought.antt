@@ -45,5 +45,6 @@ agrees-of (f ∷ fs) e x b s t = (
 
 pub agrees-open : (start : ℕ) (fs : List Feed) → Agrees (sampleRow start fs) (broughtBy start fs) start fs
 unfolding sampleRow
-agrees-open start fs = agrees-of fs start _ _ (λ i p. ap (λ (n : ℕ). getD (joined fs) n czero) (omega arith))
+agrees-open start fs = agrees-of fs start _ _
+    (λ i p. rw (le-ltb (start + i) start (omega arith)) (ap (λ (n : ℕ). getD (joined fs) n czero) (omega arith)))
     (λ i p. refl)

@@ -7,7 +7,7 @@ use native.Mathlib.Omega.{arith}
 use lib.Dec.{ltb}
 use lib.ListN.{length, getD, length-append, List·getD-append}
 use lib.Ieee.{Float}
-use borrow.Author.Tests.{ltb-true, ltb-false}
+use borrow.Author.Tests.{ltb-true, ltb-false, le-ltb}
 use Rattle.complex.specs.declared.Complex.{Complex}
 use Rattle.complex.specs.Arithmetic.{czero}
 use Rattle.complex.specs.Lists.{tabulate}
@@ -82,7 +82,7 @@ module _ (l : Layout) (i : IsLayout l) (start : ℕ) (t : Tables) (b : List Floa
 
   samples-same : (k : ℕ) → k < end → start ≤ k → sampleRow start fs k ≡ sampleRow start gs k
   unfolding sampleRow
-  samples-same k h g = rw e (sym (List·getD-append (joined fs) more czero (k - start) (omega arith)))
+  samples-same k h g = rw (le-ltb k start g, e) (sym (List·getD-append (joined fs) more czero (k - start) (omega arith)))
 
   filtered-same : (c m : ℕ) → start + l .delay ≤ m → m + l .delay < end
       → filteredRow l (sampleRow start fs) (broughtBy start fs) c m ≡ filteredRow l (sampleRow start gs) (broughtBy start gs) c m

@@ -33,9 +33,9 @@ use Rattle.modem.specs.Ideal.{otherCall, inputFault, judgement}
 use Rattle.modem.specs.FeedsFollow.{ownFault, OwnCall}
 
 -- a layout is what its bandwidth and record choose
-pub layout-same : (l k : Layout) → IsLayout l → IsLayout k → otherCall l k ≡ false → k ≡ l
+pub same-call-layout : (l k : Layout) → IsLayout l → IsLayout k → otherCall l k ≡ false → k ≡ l
 unfolding otherCall
-layout-same l k i j e =
+same-call-layout l k i j e =
     let u = neither (not (eqb (l .bandwidth) (k .bandwidth))) (not (eqb (l .rec) (k .rec))) e in
     let p : l .bandwidth ≡ k .bandwidth = equal-of (l .bandwidth) (k .bandwidth) (u .0) in
     let q : l .rec ≡ k .rec = equal-of (l .rec) (k .rec) (u .1) in
@@ -59,7 +59,7 @@ wrong-is l k i j room s w r = go (otherCall l k) refl
   where
     go : (t : Bool) → otherCall l k ≡ t → wrongState k room s ≡ t
     go true e = other-wrong k room s (other-is l k s (w .bandwidth) (w .rec) ∙ e)
-    go false e = rw (layout-same l k i j e) (not-wrong l room s w r)
+    go false e = rw (same-call-layout l k i j e) (not-wrong l room s w r)
 
 fault-is : (l k : Layout) (g : Given) (room : ℕ) (s : State) → wrongState k room s ≡ otherCall l k
     → feedFault k g s room ≡ inputFault l (spanEnd (s .samples)) g k
@@ -109,7 +109,7 @@ module _ (l : Layout) (i : IsLayout l) (g : Given) where
       with-fault k c (Met r) u v = refused-answered _ f v
       with-fault k c Clear u v =
           let r : Rows l e g k = rows-clear l e g k u in
-          let q : k ≡ l = layout-same l k i (is-layout (g .bandwidth) (g .rec) k c) (r .own) in
+          let q : k ≡ l = same-call-layout l k i (is-layout (g .bandwidth) (g .rec) k c) (r .own) in
           let p : feedOf g ≡ f = cc in
           record { own = rw q at c; feed = sym p; few = rw p at (r .few); soon = rw p at (r .soon) }
 
@@ -134,7 +134,7 @@ module _ (l : Layout) (i : IsLayout l) (g : Given) where
         with-fault k c (Met r) u = refl
         with-fault k c Clear u =
             let r : Rows l (spanEnd (s .samples)) g k = rows-clear l (spanEnd (s .samples)) g k u in
-            rw (layout-same l k i (is-layout (g .bandwidth) (g .rec) k c) (r .own))
+            rw (same-call-layout l k i (is-layout (g .bandwidth) (g .rec) k c) (r .own))
 
         go : (c : Outcome Layout) → chosen (g .bandwidth) (g .rec) ≡ c
             → andThen c (λ k. judged (feedFault k g s (length memory))

@@ -29,7 +29,7 @@ use Rattle.rx.specs.Feed.{Given, feedFault, feedOf, feedOutcome, FedBy}
 use Rattle.modem.specs.Ideal.{otherCall, verdict}
 use Rattle.modem.specs.Calls.{Calls, none, next, detections, answersOf}
 use Rattle.modem.specs.Follows.{wrongMemoryVerdict, AllRefused}
-use Rattle.modem.proofs.Judged.{layout-same, other-wrong, other-is}
+use Rattle.modem.proofs.Judged.{same-call-layout, other-wrong, other-is}
 
 module _ (l : Layout) (i : IsLayout l) (s : State) (hz : s .bandwidth ≡ l .bandwidth) (rc : s .rec ≡ l .rec) where
   wrong-room : (k : Layout) → IsLayout k → (room : ℕ) → (room ≡ 2 * memoryLength l → ⊥) → wrongState k room s ≡ true
@@ -38,7 +38,7 @@ module _ (l : Layout) (i : IsLayout l) (s : State) (hz : s .bandwidth ≡ l .ban
     where
       go : (t : Bool) → otherCall l k ≡ t → wrongState k room s ≡ true
       go true e = other-wrong k room s (other-is l k s hz rc ∙ e)
-      go false e = rw (layout-same l k i j e, ne-eqb room (2 * memoryLength l) h)
+      go false e = rw (same-call-layout l k i j e, ne-eqb room (2 * memoryLength l) h)
 
   fault-room : (k : Layout) (g : Given) (room : ℕ) → wrongState k room s ≡ true
       → feedFault k g s room ≡ orElse (tableFault k (g .markers) (g .phasors))

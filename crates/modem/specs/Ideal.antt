@@ -78,9 +78,9 @@ unfoldable pub joined : List Feed → List Complex
 joined [] = []
 joined (f ∷ fs) = f .samples ++ joined fs
 
--- sample i, numbered from start
+-- sample i, numbered from start; zero where none was fed
 unfoldable pub sampleRow : ℕ → List Feed → ℕ → Complex
-sampleRow start fs i = getD (joined fs) (i - start) czero
+sampleRow start fs i = cond (ltb i start) czero (getD (joined fs) (i - start) czero)
 
 abbrev pub noFeed : Feed
 noFeed = record { tables = record { markers = []; phasors = [] }; book = []; samples = [] }

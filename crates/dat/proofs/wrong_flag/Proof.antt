@@ -18,12 +18,12 @@ abbrev μ-loop : tie.MeasureT-loop
 loop-holds : tie.Need-loop-holds Inv-loop μ-loop
 loop-holds c = (omega arith, any-none _)
 
-carrier-flags-requires : tie.Need-carrier-flags-requires Inv-loop μ-loop
-carrier-flags-requires c κs = let s = c .before .before .before .before in (record { sized = s .pre .0; length-ok = s .pre .1; carrier = c .if1 .taken }, s .pre .2)
+bad-flag-on-requires : tie.Need-bad-flag-on-requires Inv-loop μ-loop
+bad-flag-on-requires c κs = let s = c .before .before .before .before in (record { sized = s .pre .0; length-ok = s .pre .1; carrier = c .if1 .taken }, s .pre .2)
 
 returns : tie.Need-returns Inv-loop μ-loop
 unfolding wrongFlag
-returns c = sym (any-at _ _ (c .before .before .before .before .loop .c) (c .before .before .if1 .taken) (sym (c .before .carrier-flags .ensures) ∙ c .if2 .taken))
+returns c = sym (any-at _ _ (c .before .before .before .before .loop .c) (c .before .before .if1 .taken) (sym (c .before .bad-flag-on .ensures) ∙ c .if2 .taken))
 
 add-c : tie.Need-add-c Inv-loop μ-loop
 add-c c = omega arith
@@ -32,7 +32,7 @@ loop-less : tie.Need-loop-less Inv-loop μ-loop
 loop-less c = omega arith
 
 loop-again : tie.Need-loop-again Inv-loop μ-loop
-loop-again c = (omega arith, any-more _ _ (c .before .before .before .before .loop .inv .1) (sym (c .before .carrier-flags .ensures) ∙ c .if2 .left))
+loop-again c = (omega arith, any-more _ _ (c .before .before .before .before .loop .inv .1) (sym (c .before .bad-flag-on .ensures) ∙ c .if2 .left))
 
 returns-2 : tie.Need-returns-2 Inv-loop μ-loop
 unfolding wrongFlag
@@ -45,7 +45,7 @@ wrong-flag-spec =
     Inv-loop
     μ-loop
     loop-holds
-    carrier-flags-requires
+    bad-flag-on-requires
     returns
     add-c
     loop-less

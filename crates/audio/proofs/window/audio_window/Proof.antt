@@ -5,8 +5,8 @@ use Rattle.level.specs.SizedLaws.{sized}
 use Rattle.audio.proofs.window.audio_window.Statement.{statement}
 use Rattle.audio.proofs.window.audio_window.Tie as tie
 
-sub-audio-through : tie.Need-sub-audio-through
-sub-audio-through c = search needs
+sub-audio-with-room : tie.Need-sub-audio-with-room
+sub-audio-with-room c = search needs
 
 part-h-start : tie.Need-part-h-start
 part-h-start c = search needs
@@ -15,11 +15,11 @@ part-h-end : tie.Need-part-h-end
 part-h-end c = let z = sized _ (c .before .before .before .pre .is-layout) in
     omega (arith, z .taps-are, z .delay-most)
 
-slice-aggregate-audio-through : tie.Need-slice-aggregate-audio-through
-slice-aggregate-audio-through c = search needs
+slice-aggregate-audio-with-room : tie.Need-slice-aggregate-audio-with-room
+slice-aggregate-audio-with-room c = search needs
 
-audio-through-requires : tie.Need-audio-through-requires
-audio-through-requires c κs = search needs
+audio-with-room-requires : tie.Need-audio-with-room-requires
+audio-with-room-requires c κs = search needs
 
 same-length : tie.Need-same-length
 same-length c = search needs
@@ -31,10 +31,10 @@ pub audio-window-spec : {M : Type 1} → statement M
 audio-window-spec =
     tie.close
     (tie.spec
-    sub-audio-through
+    sub-audio-with-room
     part-h-start
     part-h-end
-    slice-aggregate-audio-through
-    audio-through-requires
+    slice-aggregate-audio-with-room
+    audio-with-room-requires
     same-length
     returns)

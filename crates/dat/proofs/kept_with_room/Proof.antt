@@ -1,12 +1,12 @@
--- `dat::kept_through` meets its contract: the cells, spread over the room that there is. Assumes nothing.
+-- `dat::kept_with_room` meets its contract: the cells, spread over the room that there is. Assumes nothing.
 use mathlib.Core.Path.{ap, _∙_}
 use mathlib.Core.List.{List}
 use Prim.Native.Nat.{ℕ}
 use lib.ListN.{length}
 use Rattle.dat.specs.Cells.{thin}
 use borrow.Author.Needs.{needs}
-use Rattle.dat.proofs.kept_through.Statement.{statement}
-use Rattle.dat.proofs.kept_through.Tie as tie
+use Rattle.dat.proofs.kept_with_room.Statement.{statement}
+use Rattle.dat.proofs.kept_with_room.Tie as tie
 
 carrier-cells-requires : tie.Need-carrier-cells-requires
 carrier-cells-requires c κs = search needs
@@ -23,6 +23,6 @@ same-length-2 c = search needs
 returns : tie.Need-returns
 returns c = c .before .before .spread .ensures ∙ ap (λ (v : List ℕ). thin v (length (c .before .before .before .before .before .before .before .before .before .before .before .before .args .out .now))) (c .before .before .before .before .before .before .before .carrier-cells .ensures)
 
-pub kept-through-spec : {M : Type 1} → statement M
-kept-through-spec =
+pub kept-with-room-spec : {M : Type 1} → statement M
+kept-with-room-spec =
     tie.close (tie.spec carrier-cells-requires spread-requires same-length same-length-2 returns)

@@ -1,4 +1,4 @@
--- `audio::window::audio_through` meets its contract: the taps, zeros, and every carrier. Assumes nothing.
+-- `audio::window::audio_with_room` meets its contract: the taps, zeros, and every carrier. Assumes nothing.
 use Prim.Native.Nat.{ℕ}
 use mathlib.Core.Path.{_≡_, sym, ap, _∙_}
 use mathlib.Core.List.{List}
@@ -9,8 +9,8 @@ use Rattle.complex.specs.Arithmetic.{fzero}
 use Rattle.complex.specs.Lists.{tabulate, filled}
 use Rattle.complex.specs.ListLaws.{filled-all}
 use Rattle.audio.specs.Audio.{audioWindow, lentWave}
-use Rattle.audio.proofs.window.audio_through.Statement.{statement}
-use Rattle.audio.proofs.window.audio_through.Tie as tie
+use Rattle.audio.proofs.window.audio_with_room.Statement.{statement}
+use Rattle.audio.proofs.window.audio_with_room.Tie as tie
 
 -- a list that is filled whole
 whole : (f : ℕ → Float) (n : ℕ) (l : List Float) → length l ≡ n → filled f n l ≡ tabulate f n
@@ -49,8 +49,8 @@ returns c =
     c .before .before .add-carriers .ensures
     ∙ ap (λ (w : ℕ). audioWindow (s .l) (s .frames) (s .symbols .now) (lentWave (s .waves .now) (s .place .0) w) (s .place .0) w) (c .before .before .before .before .before .before .before .before .clear .kept .0)
 
-pub audio-through-spec : {M : Type 1} → statement M
-audio-through-spec =
+pub audio-with-room-spec : {M : Type 1} → statement M
+audio-with-room-spec =
     tie.close
     (tie.spec
     sender-taps-requires

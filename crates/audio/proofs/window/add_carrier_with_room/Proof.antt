@@ -1,4 +1,4 @@
--- `audio::window::add_through` meets its contract: the points that the window needs, and the samples made of them. Assumes nothing.
+-- `audio::window::add_carrier_with_room` meets its contract: the points that the window needs, and the samples made of them. Assumes nothing.
 use mathlib.Core.Path.{_≡_, ap, _∙_}
 use lib.ListN.{length}
 use Rattle.complex.specs.ListLaws.{length-tabulate}
@@ -8,8 +8,8 @@ use borrow.Author.Needs.{needs}
 use Rattle.audio.proofs.Sizes.{place-small, points-few, row-of, waves-within, taps-some, covers}
 use Rattle.audio.proofs.Values.{values-are}
 use Rattle.audio.proofs.Carriers.{before-own, carrier-done}
-use Rattle.audio.proofs.window.add_through.Statement.{statement}
-use Rattle.audio.proofs.window.add_through.Tie as tie
+use Rattle.audio.proofs.window.add_carrier_with_room.Statement.{statement}
+use Rattle.audio.proofs.window.add_carrier_with_room.Tie as tie
 
 carrier-audio-len-requires : tie.Need-carrier-audio-len-requires
 carrier-audio-len-requires c κs = search needs
@@ -76,8 +76,8 @@ returns c =
     (λ i h. values-are _ _ _ _ (s .args .place .0) _ _ i _ (s .args .y .now) _ (taps-some _ _ _ _ _ _ (s .pre .0)) first h (c .before .before .before .before .before .before .before .carrier-points .ensures) (s .pre .1 .interpolation))
     (before-own _ _ _ _ _ _ _ (c .before .before .before .before .before .before .before .before .before .before .before .carrier-audio-len .ensures) n)
 
-pub add-through-spec : {M : Type 1} → statement M
-add-through-spec =
+pub add-carrier-with-room-spec : {M : Type 1} → statement M
+add-carrier-with-room-spec =
     tie.close
     (tie.spec
     carrier-audio-len-requires
