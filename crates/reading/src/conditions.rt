@@ -67,18 +67,21 @@ pub fn not_in_hand(l: Layout, s: State, t0: u64, drift: &[f64]) -> bool
     samples_past(l, s, t0, drift)
 }
 
+// Looks at every part, with no branch: rows are long and their parts seldom outside.
 fn outside_one(drift: &[f64]) -> bool
     ensures { λ r. ⌜ r ≡ any (λ i. not (inRange (neg one) one (getD (now (drift .entry)) i nan)))
         (length (now (drift .entry))) ⌝ }
 {
+    let mut outside = false;
     let mut i = 0;
     while i < drift.len() {
-        if !laws::in_range(drift[i], -1.0, 1.0) {
-            return true;
+        let x = drift[i];
+        if !laws::in_range(x, -1.0, 1.0) {
+            outside = true;
         }
         i += 1;
     }
-    false
+    outside
 }
 
 // Condition 23.

@@ -18,6 +18,7 @@ use Rattle.track.specs.Memory.{partLength, samplesPart, filteredPart, trackIn}
 use Rattle.track.specs.Track.{valueAt}
 use Rattle.filter.specs.Carrier.{firAt, IsTaps}
 use Rattle.search.specs.Fits.{Within}
+use Rattle.symbols.specs.declared.Four.{Four}
 use Rattle.symbols.specs.Symbols.{driftLength, filteredSymbol, driftSymbol}
 
 -- the samples, and the filtered values of carrier c, of tracks in a memory
@@ -38,13 +39,27 @@ placeOf l span t c s = filteredPart c * partLength l + behindBase l span t c s
 abbrev pub entryOf : Layout → ℕ → ℕ → ℕ
 entryOf l c s = stagger (l .nc) c + 32 * s + 1
 
--- the sample at entry i of carrier c's drift row for a frame at t, turned
-unfoldable pub turnedAt : Layout → List Float → (ℕ → Complex) → ℕ → ℕ → ℕ → Complex
-turnedAt l drift samples t c i = cmul (cget drift (c * driftLength l + i)) (samples (t - l .delay - 1 + i))
+-- sample number first + i, turned by entry at + i of all drift rows
+unfoldable pub turnedBy : List Float → ℕ → (ℕ → Complex) → ℕ → ℕ → Complex
+turnedBy drift at samples first i = cmul (cget drift (at + i)) (samples (first + i))
 
--- symbol s of carrier c with its phasor, of the carrier's turned samples v
-abbrev pub rowSymbol : Layout → List Float → List Float → List Float → ℕ → ℕ → Complex
-rowSymbol l v taps phasors c s = cmul (firAt v taps (l .taps) (entryOf l c s)) (phasor l phasors c s)
+-- the k-th symbol with its phasor, of turned samples v: the first symbol's from place `from` on, its phasor at `at`
+unfoldable pub partSymbol : List Float → List Float → ℕ → ℕ → List Float → ℕ → ℕ → Complex
+partSymbol v taps count from phasors at k = cmul (firAt v taps count (from + 32 * k)) (cget phasors (at + k))
+
+-- four of a row, from i on, a symbol apart
+abbrev pub fourApart : (ℕ → Complex) → ℕ → Four
+fourApart f i = record { first = f i; second = f (i + 32); third = f (i + 64); fourth = f (i + 96) }
+
+-- a list of parts with four sums stored from place `at` on, each times its phasor
+abbrev pub fourStored : List Float → ℕ → Four → List Float → List Float
+fourStored phasors at four m =
+    cset
+    (cset
+    (cset
+    (cset m at (cmul (four .first) (cget phasors at))) (at + 1) (cmul (four .second) (cget phasors (at + 1))))
+    (at + 2) (cmul (four .third) (cget phasors (at + 2))))
+    (at + 3) (cmul (four .fourth) (cget phasors (at + 3)))
 
 -- a list of parts with g 0 up to g (n - 1) stored from place `at` on
 unfoldable pub storedFrom : (ℕ → Complex) → ℕ → ℕ → List Float → List Float
@@ -64,6 +79,10 @@ driftIth l memory phasors samples drift t k =
     (driftSymbol l drift (samplesIn l memory samples) t (k / l .nsym) (k % l .nsym))
     (phasor l phasors (k / l .nsym) (k % l .nsym))
 
+-- those from symbol `from` on
+abbrev pub driftFrom : Layout → List Float → List Float → Span → List Float → ℕ → ℕ → ℕ → Complex
+driftFrom l memory phasors samples drift t from k = driftIth l memory phasors samples drift t (from + k)
+
 -- a sample track in a memory of `room` f64
 pub record SamplesFit (l : Layout) (room : ℕ) (samples : Span) : Type 0 where
   pub layout : IsLayout l
@@ -82,13 +101,27 @@ pub record DriftRows (l : Layout) (drift : List Float) (t : ℕ) : Type 0 where
   pub begun : l .delay + 1 ≤ t
   pub small : t ≤ 2 ^ 50
 
--- what a carrier's symbols are made of, with its turned samples v
-pub record RowFits (l : Layout) (v taps phasors : List Float) (c : ℕ) : Type 0 where
-  pub layout : IsLayout l
-  pub long : 2 * driftLength l ≤ length v
-  pub taps-are : IsTaps l taps
-  pub phasors-ok : Phasors l phasors
+-- `count` samples from number `first` on, turned by as many entries of rows of `drift` f64 into `room` f64
+pub record TurnFits (drift room at first count : ℕ) : Type 0 where
+  pub entries : 2 * (at + count) ≤ drift
+  pub inside : 2 * count ≤ room
+  pub small : first + count ≤ 2 ^ 51
+
+-- n symbols from place `at` on, of `v` f64 of turned samples, the first one's from place `from` on
+pub record PartFits (out v taps count from phasors at n : ℕ) : Type 0 where
+  pub taps-long : count ≤ taps
+  pub samples-long : 2 * (from + 32 * n + count) ≤ v + 64
+  pub out-long : 2 * (at + n) ≤ out
+  pub phasors-long : 2 * (at + n) ≤ phasors
+
+-- n symbols of carrier c from symbol s on, and room for their turned samples
+pub record RowPart (l : Layout) (v out c s n : ℕ) : Type 0 where
   pub carrier : c < l .nc
+  pub some : 0 < n
+  pub few : n ≤ 32
+  pub within : s + n ≤ l .nsym
+  pub room : 2242 ≤ v
+  pub out-is : out ≡ 2 * (l .nc * l .nsym)
 
 -- all that the symbols of a frame at t are made of
 pub record SymbolsFit (l : Layout) (room : ℕ) (phasors : List Float) (samples filtered : Span)

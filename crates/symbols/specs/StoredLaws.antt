@@ -1,5 +1,5 @@
 -- A row of complex numbers stored behind those before it. Assumes nothing.
-use Prim.Native.Nat.{ℕ, zero, suc, _+_, _*_, _≤_, _<_}
+use Prim.Native.Nat.{ℕ, zero, suc, _+_, _-_, _*_, _≤_, _<_}
 use mathlib.Core.Path.{_≡_, refl, sym, subst, ap, ap₂, _∙_}
 use mathlib.Core.List.{List}
 use native.Mathlib.Nat.{add-zero, suc-mul}
@@ -8,10 +8,13 @@ use native.Mathlib.Omega.{arith}
 use lib.ListN.{length, length-set}
 use lib.Ieee.{Float}
 use Rattle.complex.specs.declared.Complex.{Complex}
-use Rattle.complex.specs.Pairs.{cset, cfilled}
+use Rattle.complex.specs.Arithmetic.{cmul}
+use Rattle.complex.specs.Pairs.{cget, cset, cfilled}
 use Rattle.complex.specs.PairLaws.{cfilled-length, cfilled-step}
 use Rattle.eq.specs.Fill.{Filling, filling-none}
-use Rattle.symbols.specs.Standing.{storedFrom}
+use Rattle.filter.specs.Carrier.{firAt}
+use Rattle.symbols.specs.declared.Four.{Four}
+use Rattle.symbols.specs.Standing.{storedFrom, partSymbol, fourApart, fourStored}
 
 -- ---- a loop that stores: before it, a turn of it
 pub stored-none : (g : ℕ → Complex) (at : ℕ) (m : List Float) → m ≡ storedFrom g at 0 m
@@ -30,6 +33,74 @@ pub stored-length : (g : ℕ → Complex) (at n : ℕ) (m : List Float) → leng
 unfolding storedFrom
 stored-length g at zero m = refl
 stored-length g at (suc n) m = simp length-set (stored-length g at n m)
+
+-- stored numbers that are equal
+pub stored-ext : (f g : ℕ → Complex) (at n : ℕ) (m : List Float) → ((i : ℕ) → i < n → g i ≡ f i)
+    → storedFrom g at n m ≡ storedFrom f at n m
+unfolding storedFrom
+stored-ext f g at zero m h = refl
+stored-ext f g at (suc n) m h =
+    ap₂ (λ (q : List Float) (z : Complex). cset q (at + n) z) (stored-ext f g at n m (λ i I. h i (omega arith)))
+    (h n (omega arith))
+
+-- another loop that stores behind it
+pub stored-join : (f g : ℕ → Complex) (at k n : ℕ) (m p : List Float) → p ≡ storedFrom f at k m
+    → ((i : ℕ) → i < n → g i ≡ f (k + i)) → storedFrom g (at + k) n p ≡ storedFrom f at (k + n) m
+unfolding storedFrom
+stored-join f g at k zero m p e h = e ∙ ap (λ (j : ℕ). storedFrom f at j m) (sym (add-zero k))
+stored-join f g at k (suc n) m p e h =
+    let next : suc (k + n) ≡ k + suc n = omega arith in
+    let there : at + k + n ≡ at + (k + n) = omega arith in
+    ap₂ (λ (q : List Float) (z : Complex). cset q (at + k + n) z)
+    (stored-join f g at k n m p e (λ i I. h i (omega arith))) (h n (omega arith))
+    ∙ ap (λ (j : ℕ). cset (storedFrom f at (k + n) m) j (f (k + n))) there
+    ∙ ap (λ (j : ℕ). storedFrom f at j m) next
+
+-- ---- four symbols of a part
+module _ (v taps : List Float) (count : ℕ) (phasors : List Float) (at : ℕ) where
+  abbrev part : ℕ → Complex
+  part = partSymbol v taps count 0 phasors at
+
+  store : (n i j : ℕ) (m p r : List Float) (z : Complex) → p ≡ storedFrom part at n m → j ≡ at + n → i ≡ 32 * n
+      → z ≡ firAt v taps count i → r ≡ cset p j (cmul z (cget phasors j)) → r ≡ storedFrom part at (n + 1) m
+  unfolding partSymbol
+  store n i j m p r z e J I q s =
+      let i′ : i ≡ 0 + 32 * n = omega arith in
+      stored-more part at n m p r (cmul z (cget phasors j)) e
+      (ap₂ cmul (q ∙ ap (firAt v taps count) i′) (ap (cget phasors) J))
+      (s ∙ ap (λ (j′ : ℕ). cset p j′ (cmul z (cget phasors j))) J)
+
+  pub stored-four : (k : ℕ) (m p r : List Float) (four : Four) → p ≡ storedFrom part at k m
+      → four ≡ fourApart (firAt v taps count) (32 * k) → r ≡ fourStored phasors (at + k) four p
+      → r ≡ storedFrom part at (k + 4) m
+  stored-four k m p r four e q s =
+      let one = store k (32 * k) (at + k) m p _ (four .first) e refl refl (ap (λ (f : Four). f .first) q) refl in
+      let two =
+      store (k + 1) (32 * k + 32) (at + k + 1) m _ _ (four .second) one (omega arith) (omega arith)
+      (ap (λ (f : Four). f .second) q) refl in
+      let three =
+      store (k + 1 + 1) (32 * k + 64) (at + k + 2) m _ _ (four .third) two (omega arith) (omega arith)
+      (ap (λ (f : Four). f .third) q) refl in
+      let four =
+      store (k + 1 + 1 + 1) (32 * k + 96) (at + k + 3) m _ r (four .fourth) three (omega arith) (omega arith)
+      (ap (λ (f : Four). f .fourth) q) s in
+      let n : k + 1 + 1 + 1 + 1 ≡ k + 4 = omega arith in
+      four ∙ ap (λ (j : ℕ). storedFrom part at j m) n
+
+  -- and the rest behind them
+  pub stored-rest : (k n : ℕ) (m p r : List Float) → k ≤ n → p ≡ storedFrom part at k m
+      → r ≡ storedFrom (partSymbol v taps count (32 * k) phasors (at + k)) (at + k) (n - k) p
+      → r ≡ storedFrom part at n m
+  unfolding partSymbol
+  stored-rest k n m p r h e s =
+      let whole : k + (n - k) ≡ n = omega arith in
+      s
+      ∙ stored-join part (partSymbol v taps count (32 * k) phasors (at + k)) at k (n - k) m p e
+      (λ i I.
+      let there : 32 * k + 32 * i ≡ 0 + 32 * (k + i) = omega arith in
+      let place : at + k + i ≡ at + (k + i) = omega arith in
+      ap₂ cmul (ap (firAt v taps count) there) (ap (cget phasors) place))
+      ∙ ap (λ (j : ℕ). storedFrom part at j m) whole
 
 -- ---- behind the first numbers
 stored-filled : (f g : ℕ → Complex) (at n : ℕ) (m : List Float) → ((i : ℕ) → i < n → g i ≡ f (at + i))

@@ -1,8 +1,8 @@
 -- Symbol k of all of a frame: its carrier, its number there and its phasor; and a symbol among all. Assumes nothing.
-use Prim.Native.Nat.{ℕ, _+_, _*_, _/_, _%_, _<_}
+use Prim.Native.Nat.{ℕ, _+_, _-_, _*_, _/_, _%_, _<_, _≤_}
 use mathlib.Core.Path.{_≡_, refl, sym, ap, ap₂, _∙_}
 use mathlib.Core.List.{List}
-use native.Mathlib.Nat.{div-add-mod', div-lt-iff-lt-mul, mod-lt}
+use native.Mathlib.Nat.{add-assoc, div-add-mod', div-lt-iff-lt-mul, mod-lt}
 use native.Mathlib.Omega.{arith}
 use lib.ListN.{length, getD}
 use lib.Ieee.{Float}
@@ -21,7 +21,8 @@ use Rattle.dat.specs.Cells.{phasor}
 use Rattle.track.specs.declared.Span.{Span}
 use Rattle.filter.specs.Carrier.{IsTaps}
 use Rattle.symbols.specs.Symbols.{driftLength, filteredSymbol, symbolAt, symbolsAt}
-use Rattle.symbols.specs.Standing.{samplesIn, filteredIn, turnedAt, rowSymbol, filteredIth, driftIth}
+use Rattle.symbols.specs.Standing.{samplesIn, filteredIn, entryOf, turnedBy, partSymbol, filteredIth}
+use Rattle.symbols.specs.Standing.{driftIth, driftFrom}
 use Rattle.symbols.specs.DriftLaws.{drift-is}
 
 pub record Numbered (l : Layout) (k : ℕ) : Type 0 where
@@ -45,14 +46,22 @@ module _ (l : Layout) (memory phasors : List Float) (t : ℕ) where
       → r ≡ cmul v w → r ≡ filteredIth l memory phasors filtered t k
   filtered-ith filtered k v w r i h q p e = e ∙ ap₂ cmul q (p ∙ ap (cget phasors) (sym (numbered l k i h .number)))
 
-  -- symbol s of carrier c, of the carrier's turned samples
-  pub drift-ith : (samples : Span) (drift taps v v₀ : List Float) (c : ℕ) → IsLayout l → c < l .nc → IsTaps l taps
-      → v ≡ cfilled (turnedAt l drift (samplesIn l memory samples) t c) (driftLength l) v₀ → (s : ℕ) → s < l .nsym
-      → rowSymbol l v taps phasors c s ≡ driftIth l memory phasors samples drift t (c * l .nsym + s)
-  drift-ith samples drift taps v v₀ c i C a e s S =
-      rw (quotient (l .nsym) c s S, remainder (l .nsym) c s S)
-      (ap (λ (y : Complex). cmul y (phasor l phasors c s))
-      (drift-is l i drift taps v v₀ (samplesIn l memory samples) t c s C S a e))
+  -- n symbols of carrier c from symbol s on, of samples that are turned for them
+  pub drift-ith : (samples : Span) (drift taps v v₀ : List Float) (c s n : ℕ) → s + n ≤ l .nsym → IsTaps l taps
+      → v ≡ cfilled
+      (turnedBy drift (c * driftLength l + entryOf l c s) (samplesIn l memory samples)
+      (t - l .delay - 1 + entryOf l c s))
+      (32 * (n - 1) + l .taps) v₀
+      → (k : ℕ) → k < n
+      → partSymbol v taps (l .taps) 0 phasors (c * l .nsym + s) k
+      ≡ driftFrom l memory phasors samples drift t (c * l .nsym + s) k
+  unfolding partSymbol
+  drift-ith samples drift taps v v₀ c s n h a e k K =
+      let S : s + k < l .nsym = omega arith in
+      let at : c * l .nsym + s + k ≡ c * l .nsym + (s + k) = add-assoc (c * l .nsym) s k in
+      rw (at, quotient (l .nsym) c (s + k) S, remainder (l .nsym) c (s + k) S)
+      (ap (λ (y : Complex). cmul y (phasor l phasors c (s + k)))
+      (drift-is l drift taps v v₀ (samplesIn l memory samples) t c s n a e k K))
 
   -- all, where the drift rows are empty, or aren't
   module _ (samples filtered : Span) (drift : List Float) where

@@ -1,21 +1,30 @@
 // The symbols of a frame, from the filtered tracks or from samples turned by drift rows (01, "Reading"; `symbols` of
 // rx/psk.rs).
 ghost use mathlib.Core.Path.{_≡_};
-ghost use Prim.Native.Nat.{_*_, _<_, _≤_};
+ghost use Prim.Native.Nat.{_+_, _*_, _<_, _≤_};
 ghost use lib.ListN.{length};
+ghost use Rattle.complex.specs.Arithmetic.{cadd, cmul, cscale};
 ghost use Rattle.complex.specs.Lists.{tabulate};
-ghost use Rattle.complex.specs.Pairs.{cfilled, parts};
+ghost use Rattle.complex.specs.Pairs.{cget, cset, cfilled, parts};
 ghost use Rattle.level.specs.Lengths.{memoryLength};
 ghost use Rattle.level.specs.Sized.{Sized};
 ghost use Rattle.dat.specs.Accepted.{Phasors};
-ghost use Rattle.filter.specs.Carrier.{IsTaps};
+ghost use Rattle.filter.specs.Carrier.{firAt, IsTaps};
 ghost use Rattle.symbols.specs.Symbols.{driftLength, filteredSymbol, symbolsAt};
-ghost use Rattle.symbols.specs.Standing.{samplesIn, filteredIn, placeOf, turnedAt, rowSymbol};
-ghost use Rattle.symbols.specs.Standing.{storedFrom, filteredIth, driftIth, SamplesFit};
-ghost use Rattle.symbols.specs.Standing.{FilteredFit, DriftRows, RowFits, SymbolsFit};
+ghost use Rattle.symbols.specs.Standing.{samplesIn, filteredIn, placeOf, turnedBy, partSymbol, fourApart};
+ghost use Rattle.symbols.specs.Standing.{fourStored, storedFrom, filteredIth, driftIth, driftFrom, SamplesFit};
+ghost use Rattle.symbols.specs.Standing.{FilteredFit, DriftRows, TurnFits, PartFits, RowPart, SymbolsFit};
 use complex::Complex;
 use level::Layout;
 use track::Span;
+
+// The sums of four symbols.
+struct Four {
+    first: Complex,
+    second: Complex,
+    third: Complex,
+    fourth: Complex,
+}
 
 // The entries of a carrier's drift row.
 pub fn drift_length(l: Layout) -> usize
@@ -59,27 +68,25 @@ fn sample(l: Layout, memory: &[f64], samples: Span, n: u64) -> Complex
     complex::zero()
 }
 
-// Turns carrier c's samples for a frame at t by the carrier's drift row, into v.
-fn turn_row(
+// Turns `count` samples into v, those from number `first` on, by the entries of the drift rows from `at` on.
+fn turn_across(
     l: Layout,
     memory: &[f64],
     samples: Span,
     drift: &[f64],
-    t: u64,
-    c: usize,
+    at: usize,
+    first: u64,
+    count: usize,
     v: &mut [f64],
 )
-    requires { ⌜ SamplesFit l (length (now memory)) samples × DriftRows l (now drift) t
-        × (c < l .nc) × (2 * driftLength l ≤ length (now v)) ⌝ }
+    requires { ⌜ SamplesFit l (length (now memory)) samples × TurnFits (length (now drift)) (length (now v)) at first
+        count ⌝ }
     ensures { λ _. ⌜ now (v .exit)
-        ≡ cfilled (turnedAt l (now (drift .entry)) (samplesIn l (now (memory .entry)) samples) t c)
-        (driftLength l) (now (v .entry)) ⌝ }
+        ≡ cfilled (turnedBy (now (drift .entry)) at (samplesIn l (now (memory .entry)) samples) first) count
+        (now (v .entry)) ⌝ }
 {
-    let n = drift_length(l);
-    let at = c * n;
-    let first = t - l.delay - 1;
     let mut i = 0;
-    while i < n {
+    while i < count {
         let z = sample(l, memory, samples, first + i as u64);
         let turned = complex::mul(complex::get(drift, at + i), z);
         complex::put(v, i, turned);
@@ -87,33 +94,235 @@ fn turn_row(
     }
 }
 
-// Symbol s of carrier c, of the carrier's turned samples: its first is entry stagger + 32 × s + 1 of the row.
-fn row_symbol(l: Layout, v: &[f64], taps: &[f64], phasors: &[f64], c: usize, s: usize) -> Complex
-    requires { ⌜ RowFits l (now v) (now taps) (now phasors) c × (s < l .nsym) ⌝ }
-    ensures { λ r. ⌜ r ≡ rowSymbol l (now (v .entry)) (now (taps .entry)) (now (phasors .entry)) c s ⌝ }
+// The same of numbers that stand in the memory, from place `from` on.
+fn turn_inside(memory: &[f64], from: usize, drift: &[f64], at: usize, count: usize, v: &mut [f64])
+    requires { ⌜ (2 * (from + count) ≤ length (now memory)) × (2 * (at + count) ≤ length (now drift))
+        × (2 * count ≤ length (now v)) ⌝ }
+    ensures { λ _. ⌜ now (v .exit)
+        ≡ cfilled (turnedBy (now (drift .entry)) at (λ i. cget (now (memory .entry)) i) from) count
+        (now (v .entry)) ⌝ }
 {
-    let entry = level::stagger(l.nc, c) as usize + 32 * s + 1;
-    let z = filter::fir_at(v, taps, l.taps, entry);
-    complex::mul(z, complex::get(phasors, c * l.nsym + s))
-}
-
-// The symbols of carrier c, at its places.
-fn row_symbols(l: Layout, v: &[f64], taps: &[f64], phasors: &[f64], c: usize, out: &mut [f64])
-    requires { ⌜ RowFits l (now v) (now taps) (now phasors) c × (length (now out) ≡ 2 * (l .nc * l .nsym)) ⌝ }
-    ensures { λ _. ⌜ now (out .exit)
-        ≡ storedFrom (rowSymbol l (now (v .entry)) (now (taps .entry)) (now (phasors .entry)) c)
-        (c * l .nsym) (l .nsym) (now (out .entry)) ⌝ }
-{
-    let at = c * l.nsym;
-    let mut s = 0;
-    while s < l.nsym {
-        let z = row_symbol(l, v, taps, phasors, c, s);
-        complex::put(out, at + s, z);
-        s += 1;
+    let mut i = 0;
+    while i < count {
+        let turned = complex::mul(complex::get(drift, at + i), complex::get(memory, from + i));
+        complex::put(v, i, turned);
+        i += 1;
     }
 }
 
-// All symbols of the frame at t from the samples, with the receiver's taps in hand. A row has at most 14,519 entries.
+// The same as `turn_across`; samples that are all in the track are read without a test of each.
+fn turn_part(
+    l: Layout,
+    memory: &[f64],
+    samples: Span,
+    drift: &[f64],
+    at: usize,
+    first: u64,
+    count: usize,
+    v: &mut [f64],
+)
+    requires { ⌜ SamplesFit l (length (now memory)) samples × TurnFits (length (now drift)) (length (now v)) at first
+        count ⌝ }
+    ensures { λ _. ⌜ now (v .exit)
+        ≡ cfilled (turnedBy (now (drift .entry)) at (samplesIn l (now (memory .entry)) samples) first) count
+        (now (v .entry)) ⌝ }
+{
+    let base = samples.base.0;
+    if base <= first {
+        let from = first - base;
+        if from + count as u64 <= samples.len as u64 {
+            turn_inside(memory, from as usize, drift, at, count, v);
+            return;
+        }
+    }
+    turn_across(l, memory, samples, drift, at, first, count, v);
+}
+
+// The sum with one term more: the number at place `at` of v, times its tap.
+fn weigh(sum: Complex, v: &[f64], at: usize, tap: f64) -> Complex
+    requires { ⌜ 2 * at + 1 < length (now v) ⌝ }
+    ensures { λ r. ⌜ r ≡ cadd sum (cscale (cget (now (v .entry)) at) tap) ⌝ }
+{
+    complex::add(sum, complex::scale(complex::get(v, at), tap))
+}
+
+// The sums of four symbols, the first from place i of v on, in one loop: none waits for another's additions.
+fn four_sums(v: &[f64], taps: &[f64], count: usize, i: usize) -> Four
+    requires { ⌜ (2 * (i + 96 + count) ≤ length (now v)) × (count ≤ length (now taps)) ⌝ }
+    ensures { λ r. ⌜ r ≡ fourApart (firAt (now (v .entry)) (now (taps .entry)) count) i ⌝ }
+{
+    let mut first = complex::zero();
+    let mut second = complex::zero();
+    let mut third = complex::zero();
+    let mut fourth = complex::zero();
+    let mut k = 0;
+    while k < count {
+        let tap = taps[k];
+        first = weigh(first, v, i + k, tap);
+        second = weigh(second, v, i + 32 + k, tap);
+        third = weigh(third, v, i + 64 + k, tap);
+        fourth = weigh(fourth, v, i + 96 + k, tap);
+        k += 1;
+    }
+    Four {
+        first,
+        second,
+        third,
+        fourth,
+    }
+}
+
+// Stores a sum times its phasor.
+fn put_symbol(out: &mut [f64], phasors: &[f64], at: usize, z: Complex)
+    requires { ⌜ (2 * at + 1 < length (now out)) × (2 * at + 1 < length (now phasors)) ⌝ }
+    ensures { λ _. ⌜ now (out .exit) ≡ cset (now (out .entry)) at (cmul z (cget (now (phasors .entry)) at)) ⌝ }
+{
+    complex::put(out, at, complex::mul(z, complex::get(phasors, at)));
+}
+
+// Stores four.
+fn put_four(out: &mut [f64], phasors: &[f64], at: usize, four: Four)
+    requires { ⌜ (2 * (at + 4) ≤ length (now out)) × (2 * (at + 4) ≤ length (now phasors)) ⌝ }
+    ensures { λ _. ⌜ now (out .exit) ≡ fourStored (now (phasors .entry)) at four (now (out .entry)) ⌝ }
+{
+    let first = four.first;
+    let second = four.second;
+    let third = four.third;
+    let fourth = four.fourth;
+    put_symbol(out, phasors, at, first);
+    put_symbol(out, phasors, at + 1, second);
+    put_symbol(out, phasors, at + 2, third);
+    put_symbol(out, phasors, at + 3, fourth);
+}
+
+// Stores n symbols from place `at` on, of turned samples v: the first symbol's from place `from` on.
+fn rest_symbols(
+    out: &mut [f64],
+    v: &[f64],
+    taps: &[f64],
+    count: usize,
+    from: usize,
+    phasors: &[f64],
+    at: usize,
+    n: usize,
+)
+    requires { ⌜ PartFits (length (now out)) (length (now v)) (length (now taps)) count from (length (now phasors))
+        at n ⌝ }
+    ensures { λ _. ⌜ now (out .exit)
+        ≡ storedFrom (partSymbol (now (v .entry)) (now (taps .entry)) count from (now (phasors .entry)) at)
+        at n (now (out .entry)) ⌝ }
+{
+    let mut k = 0;
+    while k < n {
+        put_symbol(
+            out,
+            phasors,
+            at + k,
+            filter::fir_at(v, taps, count, from + 32 * k),
+        );
+        k += 1;
+    }
+}
+
+// The same from place 0 of v on, four a turn.
+fn part_symbols(
+    out: &mut [f64],
+    v: &[f64],
+    taps: &[f64],
+    count: usize,
+    phasors: &[f64],
+    at: usize,
+    n: usize,
+)
+    requires { ⌜ PartFits (length (now out)) (length (now v)) (length (now taps)) count 0 (length (now phasors))
+        at n ⌝ }
+    ensures { λ _. ⌜ now (out .exit)
+        ≡ storedFrom (partSymbol (now (v .entry)) (now (taps .entry)) count 0 (now (phasors .entry)) at)
+        at n (now (out .entry)) ⌝ }
+{
+    let mut k = 0;
+    while k + 3 < n {
+        let four = four_sums(v, taps, count, 32 * k);
+        put_four(out, phasors, at + k, four);
+        k += 4;
+    }
+    rest_symbols(out, v, taps, count, 32 * k, phasors, at + k, n - k);
+}
+
+// The symbols of a part: at most 32, so that their turned samples stay in the first-level cache.
+fn part_of(left: usize) -> usize
+    requires { ⌜ 0 < left ⌝ }
+    ensures { λ r. ⌜ (0 < r) × (r ≤ left) × (r ≤ 32) ⌝ }
+{
+    if left < 32 { left } else { 32 }
+}
+
+// Stores n symbols of carrier c, from symbol s on. Its first sample is entry stagger + 32 × s + 1 of its row.
+fn turned_symbols(
+    l: Layout,
+    memory: &[f64],
+    phasors: &[f64],
+    samples: Span,
+    drift: &[f64],
+    taps: &[f64],
+    t: u64,
+    c: usize,
+    s: usize,
+    n: usize,
+    v: &mut [f64],
+    out: &mut [f64],
+)
+    requires { ⌜ SamplesFit l (length (now memory)) samples × DriftRows l (now drift) t × Phasors l (now phasors)
+        × IsTaps l (now taps) × RowPart l (length (now v)) (length (now out)) c s n ⌝ }
+    ensures { λ _. ⌜ now (out .exit)
+        ≡ storedFrom (driftFrom l (now (memory .entry)) (now (phasors .entry)) samples (now (drift .entry)) t
+        (c * l .nsym + s)) (c * l .nsym + s) n (now (out .entry)) ⌝ }
+{
+    let entry = level::stagger(l.nc, c) as usize + 32 * s + 1;
+    let first = t - l.delay - 1 + entry as u64;
+    let count = 32 * (n - 1) + l.taps;
+    turn_part(
+        l,
+        memory,
+        samples,
+        drift,
+        c * drift_length(l) + entry,
+        first,
+        count,
+        v,
+    );
+    part_symbols(out, v, taps, l.taps, phasors, c * l.nsym + s, n);
+}
+
+// All symbols of carrier c, part by part.
+fn carrier_symbols(
+    l: Layout,
+    memory: &[f64],
+    phasors: &[f64],
+    samples: Span,
+    drift: &[f64],
+    taps: &[f64],
+    t: u64,
+    c: usize,
+    v: &mut [f64],
+    out: &mut [f64],
+)
+    requires { ⌜ SamplesFit l (length (now memory)) samples × DriftRows l (now drift) t × Phasors l (now phasors)
+        × IsTaps l (now taps) × (c < l .nc) × (2242 ≤ length (now v)) × (length (now out) ≡ 2 * (l .nc * l .nsym)) ⌝ }
+    ensures { λ _. ⌜ now (out .exit)
+        ≡ storedFrom (driftFrom l (now (memory .entry)) (now (phasors .entry)) samples (now (drift .entry)) t
+        (c * l .nsym)) (c * l .nsym) (l .nsym) (now (out .entry)) ⌝ }
+{
+    let mut s = 0;
+    while s < l.nsym {
+        let n = part_of(l.nsym - s);
+        turned_symbols(l, memory, phasors, samples, drift, taps, t, c, s, n, v, out);
+        s += n;
+    }
+}
+
+// All symbols of the frame at t from the samples, with the receiver's taps in hand. 32 symbols of 129 taps take 1,121
+// samples.
 fn drift_symbols(
     l: Layout,
     memory: &[f64],
@@ -130,11 +339,10 @@ fn drift_symbols(
         ≡ parts (tabulate (driftIth l (now (memory .entry)) (now (phasors .entry)) samples (now (drift .entry)) t)
         (l .nc * l .nsym)) ⌝ }
 {
-    let mut v = [0.0; 29038];
+    let mut v = [0.0; 2242];
     let mut c = 0;
     while c < l.nc {
-        turn_row(l, memory, samples, drift, t, c, &mut v);
-        row_symbols(l, &v, taps, phasors, c, out);
+        carrier_symbols(l, memory, phasors, samples, drift, taps, t, c, &mut v, out);
         c += 1;
     }
 }

@@ -1,11 +1,13 @@
--- `reading::conditions::outside_one` meets its contract: none of the parts passed is outside −1 to 1. Assumes nothing.
-use Prim.Native.Nat.{_-_, _≤_}
+-- `reading::conditions::outside_one` meets its contract: whether one of the parts passed is outside −1 to 1. Assumes nothing.
+use Prim.Native.Nat.{ℕ, _+_, _-_, _≤_}
 use mathlib.Core.Path.{_≡_, sym, ap, _∙_}
-use mathlib.Core.Bool.{false, not}
+use mathlib.Core.Bool.{Bool, true, false, not, or-false}
+use mathlib.Core.Logic.{⊎-elim}
+use native.Mathlib.Numerals.{add-one}
 use lib.ListN.{length, getD}
 use lib.Ieee.{nan, neg}
 use Rattle.refusal.specs.Any.{any}
-use Rattle.refusal.specs.AnyLaws.{any-none, any-more, any-at, any-done}
+use Rattle.refusal.specs.AnyLaws.{any-none, any-at}
 use Rattle.laws.specs.Tests.{inRange}
 use Rattle.state.specs.Conditions.{one}
 use borrow.Author.Needs.{needs}
@@ -14,25 +16,22 @@ use Rattle.reading.proofs.conditions.outside_one.Statement.{statement}
 use Rattle.reading.proofs.conditions.outside_one.Tie as tie
 
 abbrev Inv-loop : tie.InvT-loop
-Inv-loop drift i₀ i = (i ≤ length drift) × (any (λ i. not (inRange (neg one) one (getD drift i nan))) i ≡ false)
+Inv-loop drift outside₀ i₀ outside i = (i ≤ length drift) × (outside ≡ any (λ i. not (inRange (neg one) one (getD drift i nan))) i)
 
 abbrev μ-loop : tie.MeasureT-loop
-μ-loop drift i₀ i = length drift - i
+μ-loop drift outside₀ i₀ outside i = length drift - i
 
 loop-holds : tie.Need-loop-holds Inv-loop μ-loop
-loop-holds c = (omega arith, any-none _)
+loop-holds c = (omega arith, sym (any-none _))
 
-mul-in-range : tie.Need-mul-in-range Inv-loop μ-loop
-mul-in-range c = omega arith
+mul-x : tie.Need-mul-x Inv-loop μ-loop
+mul-x c = omega arith
 
-shared-slice-read-in-range : tie.Need-shared-slice-read-in-range Inv-loop μ-loop
-shared-slice-read-in-range c = omega arith
+shared-slice-read-x : tie.Need-shared-slice-read-x Inv-loop μ-loop
+shared-slice-read-x c = omega arith
 
 in-range-requires : tie.Need-in-range-requires Inv-loop μ-loop
 in-range-requires c κs = search needs
-
-returns : tie.Need-returns Inv-loop μ-loop
-returns c = sym (any-at _ _ (c .before .before .before .before .loop .i) (c .before .before .before .loop-test .taken) (ap not (sym (c .before .in-range .ensures)) ∙ c .if1 .taken))
 
 add-i : tie.Need-add-i Inv-loop μ-loop
 add-i c = omega arith
@@ -40,11 +39,25 @@ add-i c = omega arith
 loop-less : tie.Need-loop-less Inv-loop μ-loop
 loop-less c = omega arith
 
-loop-again : tie.Need-loop-again Inv-loop μ-loop
-loop-again c = (omega arith, any-more _ _ (c .before .before .before .before .loop .inv .1) (ap not (sym (c .before .in-range .ensures)) ∙ c .if1 .left))
+-- a part outside, or not
+module _ (f : ℕ → Bool) (n : ℕ) {r : Bool} where
+  met : f n ≡ true → r ≡ true → r ≡ any f (n + 1)
+  met h e = e ∙ sym (any-at f (n + 1) n (omega arith) h)
 
-returns-2 : tie.Need-returns-2 Inv-loop μ-loop
-returns-2 c = sym (any-done _ _ _ (c .before .loop .inv .1) (c .before .loop .inv .0) (omega arith))
+  unmet : {o : Bool} → o ≡ any f n → f n ≡ false → r ≡ o → r ≡ any f (n + 1)
+  unfolding any
+  unmet g h e = e ∙ g ∙ sym (rw (add-one n, h) (or-false (any f n)))
+
+loop-again : tie.Need-loop-again Inv-loop μ-loop
+loop-again c =
+    let l = c .before .before .before .before .loop in
+    let e = ap not (sym (c .before .in-range .ensures)) in
+    (omega arith, ⊎-elim (λ v. met _ (l .i) (e ∙ v .0 .taken) (v .1)) (λ v. unmet _ (l .i) (l .inv .1) (e ∙ v .0 .left) (v .1)) (c .if1 .came))
+
+returns : tie.Need-returns Inv-loop μ-loop
+returns c =
+    let e : c .before .loop .i ≡ length (c .before .before .before .args .drift .now) = omega arith in
+    rw e at (c .before .loop .inv .1)
 
 pub outside-one-spec : {M : Type 1} → statement M
 outside-one-spec =
@@ -53,11 +66,10 @@ outside-one-spec =
     Inv-loop
     μ-loop
     loop-holds
-    mul-in-range
-    shared-slice-read-in-range
+    mul-x
+    shared-slice-read-x
     in-range-requires
-    returns
     add-i
     loop-less
     loop-again
-    returns-2)
+    returns)
