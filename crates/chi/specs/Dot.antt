@@ -1,5 +1,6 @@
 -- The sum over a table of places and references (01, "Search and hold"; rx/psk.rs, `chi`). Definitions only.
 use Prim.Native.Nat.{ℕ, _+_, _*_, _≤_, _<_}
+use mathlib.Core.Path.{_≡_}
 use mathlib.Core.List.{List}
 use lib.ListN.{length, getD}
 use lib.Ieee.{Float}
@@ -7,6 +8,7 @@ use Rattle.complex.specs.declared.Complex.{Complex}
 use Rattle.complex.specs.Arithmetic.{cmul}
 use Rattle.complex.specs.Sums.{sumTo}
 use Rattle.complex.specs.Pairs.{cget}
+use Rattle.chi.specs.declared.Three.{Three}
 
 -- the k-th term, `at` positions past the tracks' base
 abbrev pub dotTerm : List Float → List ℕ → List Float → ℕ → ℕ → Complex
@@ -20,3 +22,7 @@ dotAt memory offs refs at = sumTo (dotTerm memory offs refs at) (length offs)
 pub record DotFits (room : ℕ) (offs : List ℕ) (refs at : ℕ) : Type 0 where
   pub inside : (k : ℕ) → k < length offs → 2 * (getD offs k 0 + at) + 1 < room
   pub refs-enough : 2 * length offs ≤ refs
+
+-- three sums, at `at` and the two positions behind it
+abbrev pub ThreeAt : (ℕ → Complex) → ℕ → Three → Type 0
+ThreeAt f at r = (r .first ≡ f at) × (r .second ≡ f (at + 1)) × (r .third ≡ f (at + 2))

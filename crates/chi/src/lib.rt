@@ -11,7 +11,7 @@ ghost use Rattle.dat.specs.Cells.{cellAt};
 ghost use Rattle.dat.specs.Accepted.{Markers, Phasors};
 ghost use Rattle.chi.specs.Table.{perCarrier, symbolsOf, partOf, placeOf, referenceFor, Row, RowTabled};
 ghost use Rattle.chi.specs.Table.{RowFits, Tabled, TableFits};
-ghost use Rattle.chi.specs.Dot.{dotAt, DotFits};
+ghost use Rattle.chi.specs.Dot.{dotAt, DotFits, ThreeAt};
 use complex::Complex;
 use level::Layout;
 
@@ -189,4 +189,36 @@ pub fn dot(memory: &[f64], offs: &[usize], refs: &[f64], at: usize) -> Complex
         k += 1;
     }
     sum
+}
+
+// The sums at three positions, one behind the other.
+pub struct Three {
+    pub first: Complex,
+    pub second: Complex,
+    pub third: Complex,
+}
+
+// The sums over a table, `at`, `at` + 1 and `at` + 2 positions past the tracks' base: each cell is read once, and the
+// additions of three sums don't wait for each other.
+pub fn dot_three(memory: &[f64], offs: &[usize], refs: &[f64], at: usize) -> Three
+    requires { ⌜ DotFits (length (now memory)) (now offs) (length (now refs)) (at + 2) ⌝ }
+    ensures { λ r. ⌜ ThreeAt (dotAt (now (memory .entry)) (now (offs .entry)) (now (refs .entry))) at r ⌝ }
+{
+    let mut first = complex::zero();
+    let mut second = complex::zero();
+    let mut third = complex::zero();
+    let mut k = 0;
+    while k < offs.len() {
+        let place = offs[k] + at;
+        let q = complex::get(refs, k);
+        first = accumulate(first, memory, place, q);
+        second = accumulate(second, memory, place + 1, q);
+        third = accumulate(third, memory, place + 2, q);
+        k += 1;
+    }
+    Three {
+        first,
+        second,
+        third,
+    }
 }

@@ -84,13 +84,7 @@ pub fn mean_norm(steps: &[f64], n: usize) -> f64
     requires { ⌜ 2 * n ≤ length (now steps) ⌝ }
     ensures { λ r. ⌜ r ≡ meanNorm (λ k. cget (now (steps .entry)) k) n ⌝ }
 {
-    let mut sum = 0.0;
-    let mut k = 0;
-    while k < n {
-        sum = sum + root::norm(complex::get(steps, k));
-        k += 1;
-    }
-    sum / std::num::nearest_u64_to_f64(n as u64)
+    root::norm_sum(steps, n) / std::num::nearest_u64_to_f64(n as u64)
 }
 
 // Divides the first n steps by g.

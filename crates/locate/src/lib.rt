@@ -1,16 +1,18 @@
 // Locating a frame: the best chi around a position (01, "Reading"; `decode` of rx/psk.rs, `argmax` of dsp.rs).
 ghost use mathlib.Core.Path.{_≡_};
+ghost use Prim.Native.Nat.{_+_, _<_, _≤_, _^_};
 ghost use lib.ListN.{length};
 ghost use Rattle.chi.specs.declared.Sum.the-variants.{Pilot, Data};
 ghost use Rattle.chi.specs.Table.{TableRoom};
 ghost use Rattle.locate.specs.Locate.{locatedAt, betterOf, bestFrom, bestAround};
 ghost use Rattle.search.specs.Fits.{stepsIn, powersIn};
-ghost use Rattle.locate.specs.Fits.{flatAt, ChiFits, FlatFits, LocateFits};
+ghost use Rattle.locate.specs.Fits.{flatAt, chiOf, ChiThree, ChiFits, FlatFits, LocateFits};
 use chi::Sum;
 use complex::Complex;
 use level::Layout;
 use refusal::Position;
 use search::Chi;
+use search::Counts;
 use track::Span;
 
 // Where a frame stands, with chi and the pilot sum there.
@@ -68,6 +70,58 @@ fn chi_in(
     )
 }
 
+// Chi from the pilot sum a and the data sum b, with the pilot sum.
+fn chi_of(n: Counts, a: Complex, b: Complex) -> Chi
+    ensures { λ r. ⌜ r ≡ chiOf n a b ⌝ }
+{
+    Chi {
+        chi: search::chi_from(n, a, b),
+        pilot_sum: a,
+    }
+}
+
+// Chi at position p and the two behind it.
+struct ThreeChi {
+    first: Chi,
+    second: Chi,
+    third: Chi,
+}
+
+fn chi_three(
+    memory: &[f64],
+    marks: &[usize],
+    mark_refs: &[f64],
+    cells: &[usize],
+    cell_refs: &[f64],
+    base: u64,
+    p: u64,
+) -> ThreeChi
+    requires { ⌜ (base ≤ p) × ChiFits (length (now memory)) (now marks)
+        (length (now «mark_refs»)) (now cells) (length (now «cell_refs»)) base (p + 2) ⌝ }
+    ensures { λ r. ⌜ ChiThree (flatAt (now (memory .entry)) (now (marks .entry))
+        (now («mark_refs» .entry)) (now (cells .entry)) (now («cell_refs» .entry)) base) p r ⌝ }
+{
+    let counts = search::counts_of(marks.len(), cells.len());
+    let at = (p - base) as usize;
+    let a = chi::dot_three(memory, marks, mark_refs, at);
+    let b = chi::dot_three(memory, cells, cell_refs, at);
+    ThreeChi {
+        first: chi_of(counts, a.first, b.first),
+        second: chi_of(counts, a.second, b.second),
+        third: chi_of(counts, a.third, b.third),
+    }
+}
+
+// The best so far, and position p and the two behind it.
+fn better_three(best: Located, p: u64, x: ThreeChi) -> Located
+    requires { ⌜ p < 2 ^ 60 ⌝ }
+    ensures { λ r. ⌜ r ≡ betterOf (betterOf (betterOf best p (x .first)) (p + 1) (x .second)) (p + 2) (x .third) ⌝ }
+{
+    let first = better(best, p, x.first);
+    let second = better(first, p + 1, x.second);
+    better(second, p + 2, x.third)
+}
+
 // The best of the seven positions from lo on.
 fn locate_tables(
     memory: &[f64],
@@ -87,9 +141,10 @@ fn locate_tables(
     let mut best = at_position(lo, first);
     let mut i: u64 = 0;
     while i < 6 {
-        i += 1;
-        let x = chi_in(memory, marks, mark_refs, cells, cell_refs, base, lo + i);
-        best = better(best, lo + i, x);
+        let p = lo + i + 1;
+        let x = chi_three(memory, marks, mark_refs, cells, cell_refs, base, p);
+        best = better_three(best, p, x);
+        i += 3;
     }
     best
 }

@@ -4,12 +4,12 @@ use mathlib.Core.Path.{_≡_, refl, sym, ap, _∙_, subst}
 use Prim.Native.Nat.{ℕ, zero, suc, _+_, _-_, _*_, _/_, _%_, _^_, _≤_, _<_}
 use native.Mathlib.Nat.{lt-of-lt-of-le, not-le-of-lt, lt-irrefl, zero-lt-suc, mod-eq-of-lt, mul-pos, div-lt-iff-lt-mul, pow-suc}
 use native.Mathlib.Omega.{arith}
-use mathlib.Core.Bool.{Bool, false, cond}
-use lib.Dec.{T, leb, eqb, leb→le, eqb→eq, not-T}
+use mathlib.Core.Bool.{Bool, true, false, not, cond, false≢true}
+use lib.Dec.{T, leb, ltb, eqb, leb→le, ltb→lt, eqb→eq, not-T}
 use lib.Pow.{pow-pos, pow-mono, shl-lt}
 use lib.Count.{trailingZeros, under}
-use lib.Ieee.{nan, inf, fin, binary64, minus, odd, units, ofFields, ofBits}
-use lib.Ieee.Bits.{is-false, cond-no}
+use lib.Ieee.{Float, nan, inf, fin, binary64, minus, odd, units, ofFields, ofBits, nanBits, eq, isNan}
+use lib.Ieee.Bits.{is-false, cond-no, nanBits-above}
 use lib.Ieee.Exact.{odd-sign}
 use Rattle.root.specs.Root.{rootUnits, sqrtOf}
 use Rattle.root.specs.RootUnits.{sqrt-value, units-are}
@@ -92,3 +92,19 @@ units-bits q k lo hi small =
   where
     room : (k : ℕ) → k < 2045 → 53 + k ≤ 2098
     room k h = omega arith
+
+-- ---- a pattern below the infinity is no NaN
+pub no-nan-bits : (r : ℕ) → r < 9218868437227405312 → T (not (nanBits binary64 r))
+no-nan-bits r h =
+    subst (λ (b : Bool). T (not b)) (sym (nanBits-above binary64 r))
+    (not-T (ltb 9218868437227405312 (r % 9223372036854775808)) (λ t. no r h (ltb→lt 9218868437227405312 (r % 9223372036854775808) t)))
+  where
+    no : (r : ℕ) → r < 9218868437227405312 → 9218868437227405312 < r % 9223372036854775808 → ⊥
+    no r h k = omega arith
+
+-- ---- a value that equals itself is no NaN
+pub number-equal : (x : Float) → eq x x ≡ true → T (not (isNan x))
+unfolding eq isNan
+number-equal nan h = absurd (false≢true h)
+number-equal (inf s) h = tt
+number-equal (fin s m e) h = tt

@@ -42,7 +42,7 @@ pub fn counts_of(marks: usize, cells: usize) -> Counts
 }
 
 // Chi from the pilot sum a and the data sum b.
-fn chi_from(n: Counts, a: Complex, b: Complex) -> f64
+pub fn chi_from(n: Counts, a: Complex, b: Complex) -> f64
     ensures { λ r. ⌜ r ≡ chiFrom n a b ⌝ }
 {
     complex::norm_sqr(a) / n.marks + complex::norm_sqr(b) / n.cells

@@ -12,7 +12,7 @@ use lib.Ieee.Fits.{up-pos, eq→eqb}
 use lib.Ieee.Compare.{differs-from-itself}
 use Rattle.laws.specs.Order.{number-by}
 use Rattle.root.specs.Root.{sqrtOf}
-use Rattle.root.proofs.Patterns.{ofBits-is, plus}
+use Rattle.root.proofs.Patterns.{ofBits-is, plus, no-nan-bits}
 use borrow.Author.Needs.{needs}
 use Rattle.root.proofs.sqrt.Statement.{statement}
 use Rattle.root.proofs.sqrt.Tie as tie
@@ -102,14 +102,6 @@ at-zero = refl
 at-nan : nan ≡ sqrtOf nan
 unfolding sqrtOf
 at-nan = refl
-
-no-nan-bits : (r : ℕ) → r < 9218868437227405312 → T (not (nanBits binary64 r))
-no-nan-bits r h =
-    subst (λ (b : Bool). T (not b)) (sym (nanBits-above binary64 r))
-    (not-T (ltb 9218868437227405312 (r % 9223372036854775808)) (λ t. no r h (ltb→lt 9218868437227405312 (r % 9223372036854775808) t)))
-  where
-    no : (r : ℕ) → r < 9218868437227405312 → 9218868437227405312 < r % 9223372036854775808 → ⊥
-    no r h k = omega arith
 
 -- what owning an `f64` tells: the format holds it, so it is what its pattern stands for
 held : (c : tie.Start) → ofBits binary64 (toBits binary64 (c .args .x)) ≡ c .args .x
