@@ -21,6 +21,21 @@ pub filled-from-step {ℓ} : {A : Type ℓ} (at : ℕ) (f : ℕ → A) (n : ℕ)
 unfolding filledFrom
 filled-from-step at f n l m v e h = rw (add-one n, e, h) refl
 
+-- one and two stores
+pub filled-one {ℓ} : {A : Type ℓ} (at : ℕ) (f : ℕ → A) (l : List A) (v : A) → v ≡ f 0
+    → set l at v ≡ filledFrom at f 1 l
+unfolding filledFrom
+filled-one at f l v e =
+    let z : at + 0 ≡ at = omega arith in
+    rw (z, e) refl
+
+pub filled-two {ℓ} : {A : Type ℓ} (at : ℕ) (f : ℕ → A) (l : List A) (v w : A) → v ≡ f 0 → w ≡ f 1
+    → set (set l at v) (at + 1) w ≡ filledFrom at f 2 l
+unfolding filledFrom
+filled-two at f l v w e h =
+    let z : at + 0 ≡ at = omega arith in
+    rw (z, e, h) refl
+
 -- a slice that is filled up to `at` is filled n entries farther
 pub filled-from-more {ℓ} : {A : Type ℓ} (at : ℕ) (f g : ℕ → A) (n : ℕ) (l m : List A) (d : A) → m ≡ filled g at l
     → at + n ≤ length l → ((k : ℕ) → k < n → f k ≡ g (at + k))

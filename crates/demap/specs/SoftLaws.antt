@@ -44,7 +44,7 @@ least-left d n least e h g t =
     rw (least-step d n, u) h
 
 -- no float is below itself
-lt-irreflexive : (x : Float) → lt x x ≡ false
+pub lt-irreflexive : (x : Float) → lt x x ≡ false
 lt-irreflexive x = go (lt x x) refl
   where
     go : (t : Bool) → lt x x ≡ t → lt x x ≡ false

@@ -1,11 +1,13 @@
 // Steps of a reading in lent scratch: their turn, their size and their noise (01, "Reading"; eq.rs, and `coherence`
 // and `decode` of rx/psk.rs).
 ghost use mathlib.Core.Path.{_≡_};
+ghost use mathlib.Core.Bool.{cond};
 ghost use Prim.Native.Nat.{_+_, _*_, _<_, _≤_};
+ghost use lib.Dec.{ltb};
 ghost use lib.ListN.{length};
-ghost use Rattle.complex.specs.Arithmetic.{cunscale};
+ghost use Rattle.complex.specs.Arithmetic.{czero, cunscale};
 ghost use Rattle.complex.specs.Pairs.{cget, cfilled};
-ghost use Rattle.eq.specs.Steps.{coherentOf, coherenceOf, turnOf, stepOf, packedAt, steppedOf, Preceded, Packed};
+ghost use Rattle.eq.specs.Steps.{coherentOf, coherenceOf, turnOf, stepOf, steppedOf, Preceded, Packed};
 ghost use Rattle.eq.specs.Noise.{deviationOf, noiseOf, Inside};
 ghost use Rattle.demap.specs.Gain.{meanNorm};
 use complex::Complex;
@@ -51,30 +53,38 @@ fn step(z: &[f64], at: usize, r: Complex) -> Complex
     complex::mul(product, r)
 }
 
-// What stands at place k once the steps are packed by carrier: a step, or zero behind the last one.
-fn packed(z: &[f64], nc: usize, nsym: usize, r: Complex, k: usize) -> Complex
-    requires { ⌜ Packed nc nsym (length (now z)) × (k < nc * nsym) ⌝ }
-    ensures { λ w. ⌜ w ≡ packedAt (now (z .entry)) nc nsym r k ⌝ }
+// What stands at place k once the n steps are packed: the step from the symbol at a place, or zero behind the last one.
+fn packed(z: &[f64], n: usize, k: usize, at: usize, r: Complex) -> Complex
+    requires { ⌜ (k < n → 2 * at + 3 < length (now z)) ⌝ }
+    ensures { λ w. ⌜ w ≡ cond (ltb k n) (stepOf (now (z .entry)) r at) czero ⌝ }
 {
-    let steps = nsym - 1;
-    if k < nc * steps {
-        let c = k / steps;
-        return step(z, c * nsym + k % steps, r);
+    if k < n {
+        return step(z, at, r);
     }
     complex::zero()
 }
 
 // Symbols packed by carrier become steps packed by carrier, in place: each is made from places that aren't written
-// yet.
+// yet. `at` is the symbol that a step starts from, `left` the steps that its carrier still has: no division a step.
 pub fn pack_steps(z: &mut [f64], nc: usize, nsym: usize, r: Complex)
     requires { ⌜ Packed nc nsym (length (now z)) ⌝ }
     ensures { λ _. ⌜ now (z .exit) ≡ steppedOf (now (z .entry)) nc nsym r ⌝ }
 {
-    let n = nc * nsym;
+    let steps = nsym - 1;
+    let n = nc * steps;
+    let all = nc * nsym;
+    let mut at = 0;
+    let mut left = steps;
     let mut k = 0;
-    while k < n {
-        let w = packed(z, nc, nsym, r, k);
+    while k < all {
+        let w = packed(z, n, k, at, r);
         complex::put(z, k, w);
+        at += 1;
+        left -= 1;
+        if left == 0 {
+            at += 1;
+            left = steps;
+        }
         k += 1;
     }
 }
