@@ -44,6 +44,12 @@ impl Layout {
         }
     }
 
+    /// The decibels of a reading's median: raw, and normalised.
+    pub fn decibels(self, median: f64) -> [f64; 2] {
+        let raw = super::snr::decibels(median, self.level(), super::snr::PSK_K_DB);
+        [raw, super::snr::normalise(raw, self.level())]
+    }
+
     pub fn nc(self) -> usize {
         self.carriers().len()
     }

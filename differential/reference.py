@@ -161,8 +161,12 @@ EDITS = [
     ("wave: modulate takes it", "hf/psk.rs", after("FnMut(u32) -> u32,", f"\n    wave: {WAVE},")),
     ("soft bits: every alphabet to the demapper", "demap.rs", swap("cst.len() > 2 * CAND", "true")),
     ("median: the turn", "hf/rx/snr.rs", swap("Complex64::from_polar(1.0, -s.arg())", "stand_ins::turn_back(s)")),
-    ("median: no decibels", "hf/rx/snr.rs", before("10.0 * lg(64.0", "let _decibels = ")),
-    ("median: the answer", "hf/rx/snr.rs", after("f64::from(l.snr_corr_db)", ";\n    median(&v)")),
+    (
+        "median: the answer",
+        "hf/rx/snr.rs",
+        before("10.0 * lg(64.0", "median(&v)\n}\n\npub fn decibels(median: f64, l: &Level, k_db: f64) -> f64 {\n    "),
+    ),
+    ("median: decibels by themselves", "hf/rx/snr.rs", swap("lg(median(&v))", "lg(median)")),
     # Results that the reference has and drops.
     ("rows: modulate hands them out", "hf/psk.rs", after("FnMut(u32) -> u32,", f"\n    hand: {HAND},")),
     ("rows: may be changed", "hf/psk.rs", swap("let xs: Vec<(", "let mut xs: Vec<(")),

@@ -63,6 +63,7 @@ enum dimpstea_refusal {
     DIMPSTEA_NOT_IN_HAND = 22,
     DIMPSTEA_DRIFT_ROWS = 23,
     DIMPSTEA_GAIN = 24,
+    DIMPSTEA_MEDIAN = 26,
 };
 
 /* The words of a condition. */
@@ -118,6 +119,8 @@ static inline const char *dimpstea_refusal_words(uint32_t number) {
         return "drift row length or part outside -1 to 1";
     case DIMPSTEA_GAIN:
         return "gain not finite and above 0";
+    case DIMPSTEA_MEDIAN:
+        return "median not from 0 to 2, or M is 0";
     default:
         return "no condition has this number";
     }
@@ -331,6 +334,13 @@ uint32_t dimpstea_meter(uint32_t bandwidth, uint32_t record,
                         const uint8_t *sent, size_t sent_len,
                         const uint8_t *read, size_t read_len,
                         uint64_t *differing);
+
+/*
+ * Condition 26: the median isn't from 0 to 2, or M is 0. M is a reading's median times 10^9, truncated. Writes q, the
+ * greatest whole number with 10^q at most M to the 200th power, from 0 to 1,860: 180 - q / 10 is -20 lg of the median in
+ * dB, to a tenth. To it the host adds what its SNR has beside the median.
+ */
+uint32_t dimpstea_decibels(double median, uint32_t *tenths);
 
 #ifdef __cplusplus
 }

@@ -1,11 +1,13 @@
 //! Compares the proved modem with the Rust reference and with the model of refusals, on random inputs.
 mod count;
 mod cutting;
+mod decibels;
 mod demapping;
 mod faults;
 mod holds;
 mod inputs;
 mod model;
+mod natural;
 mod payloads;
 mod random;
 mod reading;
@@ -51,5 +53,6 @@ fn main() -> ExitCode {
     replay::run(count);
     payloads::run(cases, random, count);
     faults::run(20 * cases, random, count);
+    decibels::run(5_000 * cases, random, count);
     count.report()
 }

@@ -153,4 +153,6 @@ extern "C" {
         read_len: usize,
         differing: *mut u64,
     ) -> u32;
+
+    pub fn dimpstea_decibels(median: f64, tenths: *mut u32) -> u32;
 }

@@ -26,6 +26,7 @@
 //! ```
 
 mod complex;
+mod decibels;
 mod ffi;
 mod hold;
 mod layout;
@@ -41,6 +42,7 @@ mod steps;
 mod tables;
 
 pub use complex::{flat, flat_mut, Complex};
+pub use decibels::decibels;
 pub use hold::Hold;
 pub use layout::Layout;
 pub use located::Located;

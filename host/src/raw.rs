@@ -327,6 +327,11 @@ pub fn meter(bandwidth: u32, record: u32, sent: &[u8], read: &[u8]) -> Result<u6
     Ok(differing)
 }
 
+/// Decibels to a tenth of a reading's median: condition 26.
+pub fn decibels(median: f64, tenths: &mut u32) -> Result<(), Refusal> {
+    judged(unsafe { ffi::dimpstea_decibels(median, tenths) })
+}
+
 /// The three numbers that a release is handed over in.
 #[derive(Default)]
 struct Release {

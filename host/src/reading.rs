@@ -10,7 +10,7 @@ pub struct Reading {
     pub g: f64,
     /// The noise variance, at least 0.001.
     pub nvar: f64,
-    /// The median phase error of the marks. Decibels are the host's.
+    /// The median phase error of the marks; [`Reading::snr_db`] has it in decibels.
     pub median: f64,
     /// The n soft bits: the sign of each says the bit, its size how sure that is.
     pub soft: Vec<f64>,

@@ -5,7 +5,7 @@ use std::{error::Error, fmt};
 pub struct Refusal(u32);
 
 impl Refusal {
-    /// The refusal of this number. The modem itself answers 1 to 24.
+    /// The refusal of this number. The modem itself answers 1 to 24 and 26.
     pub const fn new(number: u32) -> Self {
         Self(number)
     }
@@ -15,7 +15,7 @@ impl Refusal {
         self.0
     }
 
-    /// The condition, in document 01's words; half a sample has no words there, and meets 18.
+    /// The condition, in the words of documents 01 and 02; half a sample has no words there, and meets 18.
     pub const fn meaning(self) -> &'static str {
         match self.0 {
             1 => "bandwidth not 500, 2300, 2750, or record not 1 to 17",
@@ -42,6 +42,7 @@ impl Refusal {
             22 => "the frame isn't in hand",
             23 => "drift row length or part outside -1 to 1",
             24 => "gain not finite and above 0",
+            26 => "median not from 0 to 2, or M is 0",
             _ => "no condition of document 01",
         }
     }

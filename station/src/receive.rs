@@ -254,13 +254,18 @@ impl<'a> Show<'a> {
         );
         match &found.reading {
             Ok(reading) if self.shorten && bits.len() > SHOWN => {
-                let (nvar, median, n) = (reading.nvar, reading.median, bits.len());
-                format!("{begin}  noise {nvar:.5}  median {median:.5}  {n} bits {}...", &bits[..SHOWN])
+                format!("{begin}  {}  {} bits {}...", figures(layout, reading), bits.len(), &bits[..SHOWN])
             }
-            Ok(reading) => format!("{begin}  noise {:.5}  median {:.5}  bits {bits}", reading.nvar, reading.median),
+            Ok(reading) => format!("{begin}  {}  bits {bits}", figures(layout, reading)),
             Err(refused) => format!("{begin}  read {refused}"),
         }
     }
+}
+
+/// A reading's figures; a median without decibels (refusal 26, as of a frame without any noise) has no SNR.
+fn figures(layout: &Layout, reading: &Reading) -> String {
+    let snr = reading.snr_db(layout).map_or_else(|_| format!("{:>5}", "-"), |snr| format!("{snr:>+5.1}"));
+    format!("noise {:.5}  median {:.5}  SNR {snr} dB", reading.nvar, reading.median)
 }
 
 /// A detection as a JSON object.
@@ -277,6 +282,8 @@ fn json(layout: &Layout, found: &Found, bits: &str, soft: Option<&Path>) -> Stri
         Ok(reading) => {
             fields.push(format!("\"noise_variance\":{}", reading.nvar));
             fields.push(format!("\"median\":{}", reading.median));
+            let snr = reading.snr_db(layout).map_or_else(|_| "null".to_string(), |snr| format!("{snr:.1}"));
+            fields.push(format!("\"snr_db\":{snr}"));
             fields.push(format!("\"bits\":\"{bits}\""));
         }
         Err(refused) => {

@@ -28,12 +28,18 @@ const WORDS: [&str; 24] = [
     "gain not finite and above 0",
 ];
 
+/// Those of document 02.
+const LATER: [(u32, &str); 1] = [(26, "median not from 0 to 2, or M is 0")];
+
 #[test]
 fn each_refusal_says_its_condition() {
     for (number, words) in (1..).zip(WORDS) {
         let refusal = Refusal::new(number);
         assert_eq!((refusal.number(), refusal.meaning()), (number, words));
         assert_eq!(refusal.to_string(), format!("refused {number}: {words}"));
+    }
+    for (number, words) in LATER {
+        assert_eq!(Refusal::new(number).to_string(), format!("refused {number}: {words}"));
     }
     for number in [0, 25, u32::MAX] {
         assert_eq!(Refusal::new(number).meaning(), "no condition of document 01");

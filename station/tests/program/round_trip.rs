@@ -69,6 +69,10 @@ fn all_layouts_at_once_find_each_frame_once() {
         assert!(line.starts_with(&format!("{{\"layout\":\"{bandwidth}/{record}\",\"seconds\":")), "{line}");
         let bits = payload(layout.payload, seed);
         assert!(line.contains(&format!("\"bits\":\"{bits}\"")), "{bandwidth}/{record}");
+        let number = |name: &str| -> f64 {
+            line.split(&format!("\"{name}\":")).nth(1).unwrap().split(',').next().unwrap().parse().unwrap()
+        };
+        assert_eq!(number("snr_db"), (10.0 * layout.snr_db(number("median")).unwrap()).round() / 10.0, "{line}");
         let soft = line.split("\"soft\":\"").nth(1).unwrap().split('"').next().unwrap();
         let soft: Vec<f64> = fs::read(folder.join(soft))
             .unwrap()
