@@ -12,6 +12,7 @@ mod reading;
 mod receiving;
 mod reference_side;
 mod replay;
+mod residuals;
 mod sending;
 mod sent;
 mod signal;
@@ -51,5 +52,6 @@ fn main() -> ExitCode {
     replay::run(count);
     payloads::run(cases, random, count);
     faults::run(20 * cases, random, count);
+    residuals::run(50 * cases, random, count);
     count.report()
 }

@@ -153,4 +153,6 @@ extern "C" {
         read_len: usize,
         differing: *mut u64,
     ) -> u32;
+
+    pub fn dimpstea_residual(re: f64, im: f64, index: *mut u32, residual: *mut i32) -> u32;
 }

@@ -2,6 +2,9 @@
 ghost use mathlib.Core.Path.{_≡_};
 ghost use Rattle.psk.specs.Symbols.{sending};
 ghost use Rattle.calls_c.specs.Calls.{ModulateCall, NcoPhaseCall, CarrierAudioCall, PayloadBitsCall, MeterCall};
+
+mod pilot_sum;
+
 use meter::Metered;
 use refusal::Place;
 

@@ -5,6 +5,7 @@ mod handing_on;
 mod in_hand;
 mod reading;
 mod refusals;
+mod residuals;
 mod signal;
 mod silence;
 mod words;
