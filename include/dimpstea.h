@@ -19,7 +19,7 @@
  *    280,000  read                         2,000  modulate, nco_phase, open
  *    260,000  feed                         1,000  layout, offer, payload_bits, meter
  *     46,000  locate
- *      8,000  carrier_audio
+ *      8,000  carrier_audio, residual
  * Measured on x86-64 Linux by `bench/run --stack` and rounded up: the most over all layouts of what a call changed
  * of a painted stack, with its caller's frame. It is touched page by page, so that a guard page below it is met.
  */
@@ -63,6 +63,7 @@ enum dimpstea_refusal {
     DIMPSTEA_NOT_IN_HAND = 22,
     DIMPSTEA_DRIFT_ROWS = 23,
     DIMPSTEA_GAIN = 24,
+    DIMPSTEA_PILOT_SUM = 25,
     DIMPSTEA_MEDIAN = 26,
 };
 
@@ -121,6 +122,8 @@ static inline const char *dimpstea_refusal_words(uint32_t number) {
         return "gain not finite and above 0";
     case DIMPSTEA_MEDIAN:
         return "median not from 0 to 2, or M is 0";
+    case DIMPSTEA_PILOT_SUM:
+        return "pilot sum with a part not finite or above 64 in size, or whose truncated parts are both zero";
     default:
         return "no condition has this number";
     }
@@ -341,6 +344,15 @@ uint32_t dimpstea_meter(uint32_t bandwidth, uint32_t record,
  * dB, to a tenth. To it the host adds what its SNR has beside the median.
  */
 uint32_t dimpstea_decibels(double median, uint32_t *tenths);
+
+/*
+ * Condition 25. The residual of a pilot sum, the same on every machine. The sum's parts times 2^20, truncated towards
+ * zero, lie at or past one of 3,000 directions, and not yet at the next. Writes
+ *   *index      that direction's index, 0 to 2,999: it points at index / 3,000 of a full turn
+ *   *residual   in thirty-seconds of a hertz, -1,500 to 1,499: the index, less 3,000 from 1,500 on
+ * and, after a refusal, neither. For half a turn it is -1,500.
+ */
+uint32_t dimpstea_residual(double re, double im, uint32_t *index, int32_t *residual);
 
 #ifdef __cplusplus
 }

@@ -125,6 +125,8 @@ fn small(l: &Layout, record: u32, expected: Result<(), u32>, most: &mut Most) {
         most.note("offer", Ok(()), &mut || hold.offer(position, Some(25.0)).map(drop));
     }
     most.note("offer", Err(21), &mut || hold.offer(u64::MAX, None).map(drop));
+    most.note("residual", Ok(()), &mut || raw::residual(1.5, -2.5).map(drop));
+    most.note("residual", Err(25), &mut || raw::residual(0.0, 0.0).map(drop));
 }
 
 fn measure() -> Most {

@@ -14,6 +14,7 @@ mod reading;
 mod receiving;
 mod reference_side;
 mod replay;
+mod residuals;
 mod sending;
 mod sent;
 mod signal;
@@ -54,5 +55,6 @@ fn main() -> ExitCode {
     payloads::run(cases, random, count);
     faults::run(20 * cases, random, count);
     decibels::run(5_000 * cases, random, count);
+    residuals::run(50 * cases, random, count);
     count.report()
 }

@@ -155,4 +155,5 @@ extern "C" {
     ) -> u32;
 
     pub fn dimpstea_decibels(median: f64, tenths: *mut u32) -> u32;
+    pub fn dimpstea_residual(re: f64, im: f64, index: *mut u32, residual: *mut i32) -> u32;
 }

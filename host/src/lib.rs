@@ -2,7 +2,8 @@
 //!
 //! [`raw`] has the open calls as they are: any bandwidth, length, table or state may be given, and a wrong one
 //! is answered with the number that document 01 gives to the first fault met. Above it stand types that keep
-//! lengths and states right: [`Layout`], [`Tables`], [`Sending`], [`Receiver`], [`Located`], [`Reading`], [`Hold`].
+//! lengths and states right: [`Layout`], [`Tables`], [`Sending`], [`Receiver`], [`Located`], [`Reading`], [`Hold`],
+//! [`Residual`].
 //!
 //! What document 01 leaves to the host is made in [`rows`]: the turn book, phasors, wave rows and drift rows.
 //!
@@ -36,6 +37,7 @@ pub mod raw;
 mod reading;
 mod receiver;
 mod refusal;
+mod residual;
 pub mod rows;
 mod sending;
 mod steps;
@@ -50,6 +52,7 @@ pub use payload::{meter, payload_bits};
 pub use reading::{ReadRefusal, Reading};
 pub use receiver::{Detection, Receiver, State};
 pub use refusal::Refusal;
+pub use residual::Residual;
 pub use sending::{Audio, Sending};
 pub use steps::Steps;
 pub use tables::Tables;

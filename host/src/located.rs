@@ -1,4 +1,4 @@
-use crate::{rows, Complex, Layout};
+use crate::{rows, Complex, Layout, Refusal, Residual};
 use std::f64::consts::TAU;
 
 /// Where a frame lies: the position of greatest chi among t0 - 3 to t0 + 3, first of equals.
@@ -13,6 +13,11 @@ pub struct Located {
 }
 
 impl Located {
+    /// The residual in thirty-seconds of a hertz, for showing it: the drift rows go by [`Self::residual_hz`].
+    pub fn residual(&self) -> Result<Residual, Refusal> {
+        Residual::of(self.pilot_sum)
+    }
+
     /// The residual `df`, in Hz: how much too high the frame still is. It is 0 unless it exceeds 1 Hz in size, and
     /// within 46.875 Hz.
     pub fn residual_hz(&self) -> f64 {

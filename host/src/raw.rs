@@ -345,3 +345,10 @@ impl Release {
         (self.released != 0).then_some(Detection { position: self.position, metric: self.metric })
     }
 }
+
+/// The index of a pilot sum's direction, and its residual in thirty-seconds of a hertz: condition 25.
+pub fn residual(re: f64, im: f64) -> Result<(u32, i32), Refusal> {
+    let (mut index, mut residual) = (0, 0);
+    judged(unsafe { ffi::dimpstea_residual(re, im, &mut index, &mut residual) })?;
+    Ok((index, residual))
+}

@@ -5,7 +5,7 @@ use std::{error::Error, fmt};
 pub struct Refusal(u32);
 
 impl Refusal {
-    /// The refusal of this number. The modem itself answers 1 to 24 and 26.
+    /// The refusal of this number. The modem itself answers 1 to 26.
     pub const fn new(number: u32) -> Self {
         Self(number)
     }
@@ -42,6 +42,7 @@ impl Refusal {
             22 => "the frame isn't in hand",
             23 => "drift row length or part outside -1 to 1",
             24 => "gain not finite and above 0",
+            25 => "pilot sum with a part not finite or above 64 in size, or whose truncated parts are both zero",
             26 => "median not from 0 to 2, or M is 0",
             _ => "no condition of document 01",
         }

@@ -60,8 +60,9 @@ Examples:
   dimpstea receive in.wav --layout 2300/7 --soft soft --plot pictures
 
 Each detection is a line, printed as it is released: time of the frame's first symbol in seconds, layout, position in
-3 kHz samples, metric, residual in Hz (0 unless it exceeds 1 Hz), noise variance, median phase error of the marks, SNR
-to a tenth of a dB (for peaks of 9.4 dB) and the payload bits (at a terminal the first of them). The soft bits' files load with
+3 kHz samples, metric, residual in Hz (a whole number of thirty-seconds), noise variance, median phase error of the
+marks, SNR to a tenth of a dB (for peaks of 9.4 dB) and the payload bits (at a terminal the first of them). The soft
+bits' files load with
   numpy.fromfile('soft/500-4-0000000273.f64', '<f8')
 where a negative number means a 1.
 

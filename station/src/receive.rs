@@ -2,7 +2,7 @@
 use crate::source::{Source, PIECE};
 use crate::{cli, error::Error, interrupt, output, plot::Pictures, progress::Progress, tables, threads};
 use clap::Args;
-use dimpstea::{rows, Complex, Detection, Layout, Located, ReadRefusal, Reading, Receiver, Refusal, Tables};
+use dimpstea::{rows, Complex, Detection, Layout, Located, ReadRefusal, Reading, Receiver, Refusal, Residual, Tables};
 use rayon::{prelude::*, ThreadPool};
 use std::fs::{self, File};
 use std::io::Write;
@@ -84,9 +84,14 @@ impl Found {
         self.located.as_ref().map_or(self.detection.metric, |located| located.chi)
     }
 
-    /// The residual in Hz, which is 0 unless it exceeds 1 Hz in size.
-    fn residual(&self) -> f64 {
+    /// The residual in Hz that drift rows take out, which is 0 unless it exceeds 1 Hz in size.
+    fn drift_hz(&self) -> f64 {
         self.located.as_ref().map_or(0.0, Located::residual_hz)
+    }
+
+    /// The residual in thirty-seconds of a hertz, the same on every machine; none where the frame isn't located.
+    fn residual(&self) -> Option<Residual> {
+        self.located.as_ref().ok().and_then(|located| located.residual().ok())
     }
 }
 
@@ -247,10 +252,10 @@ impl<'a> Show<'a> {
     fn line(&self, layout: &Layout, found: &Found, bits: &str) -> String {
         let (name, seconds) = (format!("{}/{}", layout.bandwidth, layout.record), found.seconds());
         let begin = format!(
-            "{seconds:>9.3} s  {name:<7}  position {:>8}  metric {:>7.2}  residual {:>+6.2} Hz",
+            "{seconds:>9.3} s  {name:<7}  position {:>8}  metric {:>7.2}  residual {} Hz",
             found.position(),
             found.metric(),
-            found.residual()
+            found.residual().map_or_else(|| format!("{:>9}", "-"), |residual| format!("{:>+9.5}", residual.hz()))
         );
         match &found.reading {
             Ok(reading) if self.shorten && bits.len() > SHOWN => {
@@ -276,7 +281,11 @@ fn json(layout: &Layout, found: &Found, bits: &str, soft: Option<&Path>) -> Stri
         format!("\"position\":{}", found.position()),
         format!("\"released_position\":{}", found.detection.position),
         format!("\"metric\":{}", found.metric()),
-        format!("\"residual_hz\":{}", found.residual()),
+        format!("\"residual_hz\":{}", found.drift_hz()),
+        format!(
+            "\"residual_thirty_seconds\":{}",
+            found.residual().map_or_else(|| "null".into(), |residual| residual.thirty_seconds.to_string())
+        ),
     ];
     match &found.reading {
         Ok(reading) => {

@@ -3,10 +3,12 @@
 ghost use mathlib.Core.Path.{_≡_};
 ghost use Rattle.psk.specs.Symbols.{sending};
 ghost use Rattle.calls_c.specs.Calls.{ModulateCall, NcoPhaseCall, CarrierAudioCall, PayloadBitsCall, MeterCall};
+
+mod pilot_sum;
+mod tenths;
+
 use meter::Metered;
 use refusal::Place;
-
-mod tenths;
 
 // The rows of all carriers.
 #[no_mangle]

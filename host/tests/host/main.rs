@@ -6,6 +6,7 @@ mod handing_on;
 mod in_hand;
 mod reading;
 mod refusals;
+mod residuals;
 mod signal;
 mod silence;
 mod words;

@@ -1,7 +1,7 @@
 //! Each refusal's words.
 use dimpstea::Refusal;
 
-const WORDS: [&str; 24] = [
+const WORDS: [&str; 26] = [
     "bandwidth not 500, 2300, 2750, or record not 1 to 17",
     "record isn't PSK there",
     "marker table length",
@@ -26,10 +26,9 @@ const WORDS: [&str; 24] = [
     "the frame isn't in hand",
     "drift row length or part outside -1 to 1",
     "gain not finite and above 0",
+    "pilot sum with a part not finite or above 64 in size, or whose truncated parts are both zero",
+    "median not from 0 to 2, or M is 0",
 ];
-
-/// Those of document 02.
-const LATER: [(u32, &str); 1] = [(26, "median not from 0 to 2, or M is 0")];
 
 #[test]
 fn each_refusal_says_its_condition() {
@@ -38,10 +37,7 @@ fn each_refusal_says_its_condition() {
         assert_eq!((refusal.number(), refusal.meaning()), (number, words));
         assert_eq!(refusal.to_string(), format!("refused {number}: {words}"));
     }
-    for (number, words) in LATER {
-        assert_eq!(Refusal::new(number).to_string(), format!("refused {number}: {words}"));
-    }
-    for number in [0, 25, u32::MAX] {
+    for number in [0, 34, u32::MAX] {
         assert_eq!(Refusal::new(number).meaning(), "no condition of document 01");
     }
 }

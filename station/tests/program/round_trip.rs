@@ -156,6 +156,9 @@ fn shifted_recordings_are_read_with_drift_rows() {
         let line = out(&read);
         let residual: f64 = line.split("\"residual_hz\":").nth(1).unwrap().split(',').next().unwrap().parse().unwrap();
         assert!((residual - hz).abs() < 0.5, "{name}: residual {residual}");
+        let shown: f64 =
+            line.split("\"residual_thirty_seconds\":").nth(1).unwrap().split(',').next().unwrap().parse().unwrap();
+        assert!((shown / 32.0 - residual).abs() < 0.04, "{name}: {shown} thirty-seconds, {residual} Hz");
         assert!(line.contains(&format!("\"bits\":\"{sent}\"")), "{name}: {line}");
     }
 }
