@@ -15,6 +15,7 @@ mod replay;
 mod sending;
 mod sent;
 mod signal;
+mod soft_order;
 mod stored;
 mod turns;
 
@@ -51,5 +52,6 @@ fn main() -> ExitCode {
     replay::run(count);
     payloads::run(cases, random, count);
     faults::run(20 * cases, random, count);
+    soft_order::run(cases / 10 + 1, random, count);
     count.report()
 }

@@ -153,4 +153,26 @@ extern "C" {
         read_len: usize,
         differing: *mut u64,
     ) -> u32;
+
+    pub fn dimpstea_by_time(
+        bandwidth: u32,
+        record: u32,
+        markers: *const u16,
+        markers_len: usize,
+        soft: *const f64,
+        soft_len: usize,
+        out: *mut f64,
+        out_len: usize,
+    ) -> u32;
+
+    pub fn dimpstea_by_carrier(
+        bandwidth: u32,
+        record: u32,
+        markers: *const u16,
+        markers_len: usize,
+        timed: *const f64,
+        timed_len: usize,
+        out: *mut f64,
+        out_len: usize,
+    ) -> u32;
 }

@@ -37,6 +37,7 @@ mod receiver;
 mod refusal;
 pub mod rows;
 mod sending;
+mod soft_order;
 mod steps;
 mod tables;
 
@@ -49,5 +50,6 @@ pub use reading::{ReadRefusal, Reading};
 pub use receiver::{Detection, Receiver, State};
 pub use refusal::Refusal;
 pub use sending::{Audio, Sending};
+pub use soft_order::{by_carrier, by_time};
 pub use steps::Steps;
 pub use tables::Tables;
