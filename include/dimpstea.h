@@ -354,6 +354,25 @@ uint32_t dimpstea_decibels(double median, uint32_t *tenths);
  */
 uint32_t dimpstea_residual(double re, double im, uint32_t *index, int32_t *residual);
 
+/*
+ * Conditions 1 to 5, 11. Writes a frame's soft bits, which a reading has carrier by carrier, by symbol and in each symbol
+ * by carrier, leaving marks out. The bits of a cell stay together. Every double is copied as it is, with the bits that a
+ * NaN has.
+ *   markers_len  as for dimpstea_modulate
+ *   soft_len     n
+ *   out_len      n
+ */
+uint32_t dimpstea_by_time(uint32_t bandwidth, uint32_t record,
+                          const uint16_t *markers, size_t markers_len,
+                          const double *soft, size_t soft_len,
+                          double *out, size_t out_len);
+
+/* The inverse, with the same conditions and lengths: given what dimpstea_by_time wrote, it writes what that was given. */
+uint32_t dimpstea_by_carrier(uint32_t bandwidth, uint32_t record,
+                             const uint16_t *markers, size_t markers_len,
+                             const double *timed, size_t timed_len,
+                             double *out, size_t out_len);
+
 #ifdef __cplusplus
 }
 #endif

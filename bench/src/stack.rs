@@ -120,6 +120,9 @@ fn small(l: &Layout, record: u32, expected: Result<(), u32>, most: &mut Most) {
     let mut out = vec![0; l.payload];
     most.note("payload_bits", expected, &mut || raw::payload_bits(l.bandwidth, record, &soft, &mut out));
     most.note("meter", expected, &mut || raw::meter(l.bandwidth, record, &bits, &bits).map(drop));
+    let (markers, mut timed) = (tables(l).markers, vec![0.0; l.payload]);
+    most.note("by_time", expected, &mut || raw::by_time(l.bandwidth, record, &markers, &soft, &mut timed));
+    most.note("by_carrier", expected, &mut || raw::by_carrier(l.bandwidth, record, &markers, &soft, &mut timed));
     let mut hold = Hold::new(8, 100);
     for position in [100, 120] {
         most.note("offer", Ok(()), &mut || hold.offer(position, Some(25.0)).map(drop));

@@ -18,6 +18,7 @@ mod residuals;
 mod sending;
 mod sent;
 mod signal;
+mod soft_order;
 mod stored;
 mod turns;
 
@@ -56,5 +57,6 @@ fn main() -> ExitCode {
     faults::run(20 * cases, random, count);
     decibels::run(5_000 * cases, random, count);
     residuals::run(50 * cases, random, count);
+    soft_order::run(cases / 10 + 1, random, count);
     count.report()
 }

@@ -156,4 +156,25 @@ extern "C" {
 
     pub fn dimpstea_decibels(median: f64, tenths: *mut u32) -> u32;
     pub fn dimpstea_residual(re: f64, im: f64, index: *mut u32, residual: *mut i32) -> u32;
+    pub fn dimpstea_by_time(
+        bandwidth: u32,
+        record: u32,
+        markers: *const u16,
+        markers_len: usize,
+        soft: *const f64,
+        soft_len: usize,
+        out: *mut f64,
+        out_len: usize,
+    ) -> u32;
+
+    pub fn dimpstea_by_carrier(
+        bandwidth: u32,
+        record: u32,
+        markers: *const u16,
+        markers_len: usize,
+        timed: *const f64,
+        timed_len: usize,
+        out: *mut f64,
+        out_len: usize,
+    ) -> u32;
 }

@@ -40,6 +40,7 @@ mod refusal;
 mod residual;
 pub mod rows;
 mod sending;
+mod soft_order;
 mod steps;
 mod tables;
 
@@ -54,5 +55,6 @@ pub use receiver::{Detection, Receiver, State};
 pub use refusal::Refusal;
 pub use residual::Residual;
 pub use sending::{Audio, Sending};
+pub use soft_order::{by_carrier, by_time};
 pub use steps::Steps;
 pub use tables::Tables;

@@ -21,7 +21,7 @@
 //! | `samples` | 2 for each sample, so at most 8,000 |
 //! | `drift` | 0, or 2 x nc x (greatest stagger + 32 x (nsym - 1) + 2 x delay + 2) |
 //! | `scratch` | 2 x nc x nsym |
-//! | `soft` | n |
+//! | `soft`, `timed` | n, as `out` for [`by_time`] and [`by_carrier`] |
 use crate::ffi;
 use crate::refusal::judged;
 use crate::{Detection, Refusal};
@@ -330,6 +330,38 @@ pub fn meter(bandwidth: u32, record: u32, sent: &[u8], read: &[u8]) -> Result<u6
 /// Decibels to a tenth of a reading's median: condition 26.
 pub fn decibels(median: f64, tenths: &mut u32) -> Result<(), Refusal> {
     judged(unsafe { ffi::dimpstea_decibels(median, tenths) })
+}
+
+/// A frame's soft bits by symbol, then carrier, leaving marks out: conditions 1 to 5, 11.
+pub fn by_time(bandwidth: u32, record: u32, markers: &[u16], soft: &[f64], out: &mut [f64]) -> Result<(), Refusal> {
+    judged(unsafe {
+        ffi::dimpstea_by_time(
+            bandwidth,
+            record,
+            markers.as_ptr(),
+            markers.len(),
+            soft.as_ptr(),
+            soft.len(),
+            out.as_mut_ptr(),
+            out.len(),
+        )
+    })
+}
+
+/// The inverse of [`by_time`]: conditions 1 to 5, 11.
+pub fn by_carrier(bandwidth: u32, record: u32, markers: &[u16], timed: &[f64], out: &mut [f64]) -> Result<(), Refusal> {
+    judged(unsafe {
+        ffi::dimpstea_by_carrier(
+            bandwidth,
+            record,
+            markers.as_ptr(),
+            markers.len(),
+            timed.as_ptr(),
+            timed.len(),
+            out.as_mut_ptr(),
+            out.len(),
+        )
+    })
 }
 
 /// The three numbers that a release is handed over in.

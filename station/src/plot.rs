@@ -1,18 +1,20 @@
 //! Pictures, as SVG files.
 //!
-//! [`steps`] shows a frame's received steps, [`Chi`] the metric over time, [`Waterfall`] the spectrum over time, and
-//! [`rates`] a trial's rates over SNR. [`Pictures`] are those of a recording; what they keep doesn't grow with its
-//! length.
+//! [`steps`] shows a frame's received steps, [`soft`] its soft bits over time, [`Chi`] the metric over time,
+//! [`Waterfall`] the spectrum over time, and [`rates`] a trial's rates over SNR. [`Pictures`] are those of a recording;
+//! what they keep doesn't grow with its length.
 mod chi;
 mod pictures;
 mod png;
 mod rates;
+mod soft;
 mod steps;
 mod waterfall;
 
 pub use chi::Chi;
 pub use pictures::Pictures;
 pub use rates::{rates, Curve, Panel, Rate};
+pub use soft::soft;
 pub use steps::steps;
 pub use waterfall::{Mark, Waterfall};
 

@@ -198,7 +198,7 @@ impl Desk {
         if let Some(pictures) = &mut self.pictures {
             pictures.fed(&self.receiver, &self.tables, samples);
             if let Some(found) = &found {
-                pictures.found(found);
+                pictures.found(&self.tables, found);
             }
         }
         Ok(found)

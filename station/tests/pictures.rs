@@ -22,14 +22,16 @@ fn a_recording_of_two_frames() {
         .collect();
     files.sort();
     let names: Vec<&str> = files.iter().map(|(name, _)| &name[..name.len().min(11)]).collect();
-    assert_eq!(names, ["500-6-chi.s", "500-6-steps", "500-6-steps", "500-6-water"]);
+    assert_eq!(names, ["500-6-chi.s", "500-6-soft-", "500-6-soft-", "500-6-steps", "500-6-steps", "500-6-water"]);
     for (name, svg) in &files {
         assert!(svg.starts_with("<svg") && svg.trim_end().ends_with("</svg>"), "{name}");
     }
     // A circle for each detection and one for the legend; a dot for each step; an outline for each frame.
     assert_eq!(files[0].1.matches("<circle").count(), 3);
-    assert_eq!(files[1].1.matches("<circle").count(), layout.carriers * (layout.nsym - 1));
-    assert_eq!(files[3].1.matches("stroke-dasharray").count(), 2);
-    assert!(files[3].1.contains("data:image/png;base64,iVBORw0KGgo"));
+    assert_eq!(files[3].1.matches("<circle").count(), layout.carriers * (layout.nsym - 1));
+    assert_eq!(files[5].1.matches("stroke-dasharray").count(), 2);
+    for picture in [1, 2, 5] {
+        assert!(files[picture].1.contains("data:image/png;base64,iVBORw0KGgo"));
+    }
     std::fs::remove_dir_all(folder).unwrap();
 }

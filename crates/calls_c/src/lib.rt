@@ -5,6 +5,7 @@ ghost use Rattle.psk.specs.Symbols.{sending};
 ghost use Rattle.calls_c.specs.Calls.{ModulateCall, NcoPhaseCall, CarrierAudioCall, PayloadBitsCall, MeterCall};
 
 mod pilot_sum;
+mod soft_order;
 mod tenths;
 
 use meter::Metered;

@@ -9,4 +9,5 @@ mod refusals;
 mod residuals;
 mod signal;
 mod silence;
+mod soft_order;
 mod words;

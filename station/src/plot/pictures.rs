@@ -1,9 +1,9 @@
-use super::{steps, Chi, Mark, Waterfall};
+use super::{soft, steps, Chi, Mark, Waterfall};
 use crate::{error::Error, receive::Found};
 use dimpstea::{Complex, Detection, Layout, Receiver, Tables};
 use std::path::{Path, PathBuf};
 
-/// Detections that are marked at most, and those of them whose steps are drawn.
+/// Detections that are marked at most, and those of them whose steps and soft bits are drawn.
 const MARKS: usize = 1000;
 const STEPS: usize = 20;
 
@@ -41,7 +41,7 @@ impl Pictures {
     }
 
     /// A detection was released.
-    pub fn found(&mut self, found: &Found) {
+    pub fn found(&mut self, tables: &Tables, found: &Found) {
         if self.detections.len() < MARKS {
             self.detections.push(found.detection);
             self.marks.extend(found.located.iter().map(|located| Mark::of(&self.layout, located)));
@@ -49,6 +49,9 @@ impl Pictures {
         if let (Ok(reading), true) = (&found.reading, self.detections.len() <= STEPS) {
             let file = self.file(&format!("steps-{:010}", found.position()));
             let drawn = steps(&file, &self.layout, &reading.steps);
+            self.note(file, drawn);
+            let file = self.file(&format!("soft-{:010}", found.position()));
+            let drawn = soft(&file, &self.layout, tables, reading);
             self.note(file, drawn);
         }
     }

@@ -1,0 +1,60 @@
+-- `order::put` meets its contract: its arrays have room for the carriers and the cells of every layout. Assumes nothing.
+use mathlib.Core.Path.{refl}
+use Rattle.order.proofs.OrderLaws.{cells-room, front}
+use native.Mathlib.Omega.{arith}
+use borrow.Author.Needs.{needs}
+use Rattle.order.proofs.put.Statement.{statement}
+use Rattle.order.proofs.put.Tie as tie
+
+sub-n : tie.Need-sub-n
+sub-n c = search needs
+
+sub-n-2 : tie.Need-sub-n-2
+sub-n-2 c = search needs
+
+mul-n : tie.Need-mul-n
+mul-n c =
+    let s = c .before .before .before .before .before .before in
+    omega (arith, cells-room (s .args .l) (s .pre .0 .sized), s .pre .0 .sized .cells-most)
+
+slice-aggregate-put-through : tie.Need-slice-aggregate-put-through
+slice-aggregate-put-through c = search needs
+
+sub-put-through : tie.Need-sub-put-through
+sub-put-through c = search needs
+
+part-places-start : tie.Need-part-places-start
+part-places-start c = search needs
+
+part-places-end : tie.Need-part-places-end
+part-places-end c =
+    let s = c .before .before .before .before .before .before .before in
+    omega (arith, cells-room (s .args .l) (s .pre .0 .sized), s .pre .0 .sized .cells-most)
+
+put-through-requires : tie.Need-put-through-requires
+put-through-requires c κs =
+    let s = c .before .before .before .before .before .before .before .before .before in
+    let z = s .pre .0 .sized in
+    let e = cells-room (s .args .l) z in
+    (s .pre .0, refl, front _ _ _ e (omega (arith, z .cells-most)), s .pre .1, s .pre .2)
+
+same-length : tie.Need-same-length
+same-length c = search needs
+
+returns : tie.Need-returns
+returns c = search needs
+
+pub put-spec : {M : Type 1} → statement M
+put-spec =
+    tie.close
+    (tie.spec
+    sub-n
+    sub-n-2
+    mul-n
+    slice-aggregate-put-through
+    sub-put-through
+    part-places-start
+    part-places-end
+    put-through-requires
+    same-length
+    returns)

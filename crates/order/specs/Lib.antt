@@ -1,0 +1,4 @@
+pub mod TimeCells
+pub mod SoftOrder
+pub mod Restored
+pub mod Places
