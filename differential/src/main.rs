@@ -15,6 +15,7 @@ mod replay;
 mod sending;
 mod sent;
 mod signal;
+mod steps;
 mod stored;
 mod turns;
 
@@ -50,6 +51,7 @@ fn main() -> ExitCode {
     holds::run(20 * cases, random, count);
     replay::run(count);
     payloads::run(cases, random, count);
+    steps::run(1000 * cases, random, count);
     faults::run(20 * cases, random, count);
     count.report()
 }

@@ -153,4 +153,6 @@ extern "C" {
         read_len: usize,
         differing: *mut u64,
     ) -> u32;
+
+    pub fn dimpstea_soft_step(size: usize, re: f64, im: f64, nvar: f64, out: *mut f64, out_len: usize) -> u32;
 }

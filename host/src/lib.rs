@@ -25,6 +25,7 @@
 //! # Ok::<(), dimpstea::Refusal>(())
 //! ```
 
+mod alphabet;
 mod complex;
 mod ffi;
 mod hold;
@@ -40,6 +41,7 @@ mod sending;
 mod steps;
 mod tables;
 
+pub use alphabet::{erased, soft_step};
 pub use complex::{flat, flat_mut, Complex};
 pub use hold::Hold;
 pub use layout::Layout;

@@ -5,7 +5,7 @@ use std::{error::Error, fmt};
 pub struct Refusal(u32);
 
 impl Refusal {
-    /// The refusal of this number. The modem itself answers 1 to 24.
+    /// The refusal of this number. The modem itself answers 1 to 24 and, by document 02, 31 to 33.
     pub const fn new(number: u32) -> Self {
         Self(number)
     }
@@ -42,6 +42,9 @@ impl Refusal {
             22 => "the frame isn't in hand",
             23 => "drift row length or part outside -1 to 1",
             24 => "gain not finite and above 0",
+            31 => "alphabet size other than 2, 4, 8, 16 or 32",
+            32 => "step part not finite or above 2^20 in size",
+            33 => "noise variance not finite or outside 0.001 to 2^60",
             _ => "no condition of document 01",
         }
     }

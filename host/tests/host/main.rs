@@ -7,4 +7,5 @@ mod reading;
 mod refusals;
 mod signal;
 mod silence;
+mod steps;
 mod words;
