@@ -149,6 +149,11 @@ pub fn soft_bits(bps: usize, steps: &[Complex64], nvar: f64) -> Vec<f64> {
     soft
 }
 
+/// The points of the alphabet of so many bits.
+pub fn alphabet(bps: usize) -> Vec<Complex64> {
+    constellation(bps as u32).to_vec()
+}
+
 /// The reference's hold.
 pub struct Holder(Hold<()>);
 

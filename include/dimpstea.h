@@ -65,6 +65,9 @@ enum dimpstea_refusal {
     DIMPSTEA_GAIN = 24,
     DIMPSTEA_PILOT_SUM = 25,
     DIMPSTEA_MEDIAN = 26,
+    DIMPSTEA_ALPHABET_SIZE = 31,
+    DIMPSTEA_STEP_SIZE = 32,
+    DIMPSTEA_NOISE_VARIANCE = 33,
 };
 
 /* The words of a condition. */
@@ -124,6 +127,12 @@ static inline const char *dimpstea_refusal_words(uint32_t number) {
         return "median not from 0 to 2, or M is 0";
     case DIMPSTEA_PILOT_SUM:
         return "pilot sum with a part not finite or above 64 in size, or whose truncated parts are both zero";
+    case DIMPSTEA_ALPHABET_SIZE:
+        return "alphabet size other than 2, 4, 8, 16 or 32";
+    case DIMPSTEA_STEP_SIZE:
+        return "step part not finite or above 2^20 in size";
+    case DIMPSTEA_NOISE_VARIANCE:
+        return "noise variance not finite or outside 0.001 to 2^60";
     default:
         return "no condition has this number";
     }
@@ -372,6 +381,19 @@ uint32_t dimpstea_by_carrier(uint32_t bandwidth, uint32_t record,
                              const uint16_t *markers, size_t markers_len,
                              const double *timed, size_t timed_len,
                              double *out, size_t out_len);
+
+/*
+ * Conditions 31 11 32 33. Writes the soft bits of one step in an alphabet of `size` points (2, 4, 8, 16 or 32), the
+ * label's high bit first. Steps and alphabets are those of a reading divided by g: points have a size of about 1.
+ *   re, im       the step's parts, of at most 2^20 in size
+ *   nvar         the noise variance, 0.001 to 2^60
+ *   out_len      the bits of a label: 1, 2, 3, 4 or 5
+ * A soft bit whose sign bit is set means 1, and its sign bit is the nearest point's bit, the first of equals. A soft bit
+ * that is zero, of either sign (x == 0.0), is an erasure: among the points that the demapper compares, one with the
+ * other bit is as near as the nearest. In no other case is a soft bit zero.
+ */
+uint32_t dimpstea_soft_step(size_t size, double re, double im, double nvar,
+                            double *out, size_t out_len);
 
 #ifdef __cplusplus
 }

@@ -2,7 +2,7 @@
 //! word that isn't as it was painted is looked for. The wrapper in host/ that makes the call counts too.
 use crate::calls::{drift, released};
 use crate::inputs::{draws, layout, noise, payload, tables};
-use dimpstea::{flat, raw, rows, Hold, Layout, Refusal};
+use dimpstea::{flat, raw, rows, Complex, Hold, Layout, Refusal};
 use std::arch::asm;
 use std::collections::BTreeMap;
 use std::thread;
@@ -123,6 +123,11 @@ fn small(l: &Layout, record: u32, expected: Result<(), u32>, most: &mut Most) {
     let (markers, mut timed) = (tables(l).markers, vec![0.0; l.payload]);
     most.note("by_time", expected, &mut || raw::by_time(l.bandwidth, record, &markers, &soft, &mut timed));
     most.note("by_carrier", expected, &mut || raw::by_carrier(l.bandwidth, record, &markers, &soft, &mut timed));
+    for bits in 1..=5 {
+        let step = Complex::new(0.3, -0.2);
+        most.note("soft_step", Ok(()), &mut || raw::soft_step(1 << bits, step, 1.0, &mut [0.0; 5][..bits]));
+        most.note("soft_step", Err(33), &mut || raw::soft_step(1 << bits, step, 0.0, &mut [0.0; 5][..bits]));
+    }
     let mut hold = Hold::new(8, 100);
     for position in [100, 120] {
         most.note("offer", Ok(()), &mut || hold.offer(position, Some(25.0)).map(drop));

@@ -19,6 +19,7 @@ mod sending;
 mod sent;
 mod signal;
 mod soft_order;
+mod steps;
 mod stored;
 mod turns;
 
@@ -54,6 +55,7 @@ fn main() -> ExitCode {
     holds::run(20 * cases, random, count);
     replay::run(count);
     payloads::run(cases, random, count);
+    steps::run(1000 * cases, random, count);
     faults::run(20 * cases, random, count);
     decibels::run(5_000 * cases, random, count);
     residuals::run(50 * cases, random, count);

@@ -177,4 +177,5 @@ extern "C" {
         out: *mut f64,
         out_len: usize,
     ) -> u32;
+    pub fn dimpstea_soft_step(size: usize, re: f64, im: f64, nvar: f64, out: *mut f64, out_len: usize) -> u32;
 }

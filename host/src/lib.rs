@@ -26,6 +26,7 @@
 //! # Ok::<(), dimpstea::Refusal>(())
 //! ```
 
+mod alphabet;
 mod complex;
 mod decibels;
 mod ffi;
@@ -44,6 +45,7 @@ mod soft_order;
 mod steps;
 mod tables;
 
+pub use alphabet::{erased, soft_step};
 pub use complex::{flat, flat_mut, Complex};
 pub use decibels::decibels;
 pub use hold::Hold;

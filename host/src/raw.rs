@@ -14,7 +14,7 @@
 //! | `rows`, `symbols` | 2 x nc x (9 + frames x nsym) |
 //! | `phases` | nc |
 //! | `waves` | 2 x nc x window |
-//! | `out` | nc x window for [`nco_phase`], window for [`carrier_audio`], n for [`read`] and [`payload_bits`] |
+//! | `out` | nc x window for [`nco_phase`], window for [`carrier_audio`], n for [`read`] and [`payload_bits`], a label's bits for [`soft_step`] |
 //! | `book` | 6,000 |
 //! | `state`, `numbers`, `hold`, `result` | [`STATE`], [`LAYOUT`], [`HOLD`], and [`LOCATED`] or [`READING`] |
 //! | `memory` | 2 x (1 + 3 x nc) x (2 x keep + 4000) |
@@ -24,7 +24,7 @@
 //! | `soft`, `timed` | n, as `out` for [`by_time`] and [`by_carrier`] |
 use crate::ffi;
 use crate::refusal::judged;
-use crate::{Detection, Refusal};
+use crate::{Complex, Detection, Refusal};
 
 /// How many numbers [`layout`] writes.
 pub const LAYOUT: usize = 13;
@@ -383,4 +383,10 @@ pub fn residual(re: f64, im: f64) -> Result<(u32, i32), Refusal> {
     let (mut index, mut residual) = (0, 0);
     judged(unsafe { ffi::dimpstea_residual(re, im, &mut index, &mut residual) })?;
     Ok((index, residual))
+}
+
+/// The soft bits of one step in an alphabet of `size` points: conditions 31 11 32 33. `out` has a place for each bit of
+/// a label; [`soft_step`](crate::soft_step) says what they mean.
+pub fn soft_step(size: usize, step: Complex, nvar: f64, out: &mut [f64]) -> Result<(), Refusal> {
+    judged(unsafe { ffi::dimpstea_soft_step(size, step.re, step.im, nvar, out.as_mut_ptr(), out.len()) })
 }

@@ -3,11 +3,13 @@
 ghost use mathlib.Core.Path.{_≡_};
 ghost use Rattle.psk.specs.Symbols.{sending};
 ghost use Rattle.calls_c.specs.Calls.{ModulateCall, NcoPhaseCall, CarrierAudioCall, PayloadBitsCall, MeterCall};
+ghost use Rattle.calls_c.specs.Steps.{SoftStepCall};
 
 mod pilot_sum;
 mod soft_order;
 mod tenths;
 
+use complex::Complex;
 use meter::Metered;
 use refusal::Place;
 
@@ -116,4 +118,19 @@ pub extern "C" fn dimpstea_meter(
             0
         }
     }
+}
+
+// The soft bits of one step in an alphabet of 2, 4, 8, 16 or 32 points.
+#[no_mangle]
+pub extern "C" fn dimpstea_soft_step(
+    size: usize,
+    re: f64,
+    im: f64,
+    nvar: f64,
+    out: &mut [f64],
+) -> u32
+    ensures { λ r. ⌜ SoftStepCall size re im nvar (now (out .entry)) r (now (out .exit)) ⌝ }
+{
+    let z = Complex { re: re, im: im };
+    refusal::code(softstep::soft_step(size, z, nvar, out))
 }

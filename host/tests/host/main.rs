@@ -10,4 +10,5 @@ mod residuals;
 mod signal;
 mod silence;
 mod soft_order;
+mod steps;
 mod words;

@@ -41,3 +41,10 @@ fn each_refusal_says_its_condition() {
         assert_eq!(Refusal::new(number).meaning(), "no condition of document 01");
     }
 }
+
+#[test]
+fn the_refusals_of_one_step_say_their_conditions() {
+    assert_eq!(Refusal::new(31).meaning(), "alphabet size other than 2, 4, 8, 16 or 32");
+    assert_eq!(Refusal::new(32).meaning(), "step part not finite or above 2^20 in size");
+    assert_eq!(Refusal::new(33).meaning(), "noise variance not finite or outside 0.001 to 2^60");
+}

@@ -1,0 +1,10 @@
+pub mod Far
+pub mod Labels
+pub mod Padded
+pub mod Weighed
+pub mod Powers
+pub mod Gaps
+pub mod Spaced
+pub mod FarPoints
+pub mod ZeroLaw
+pub mod StepLaws
