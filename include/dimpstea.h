@@ -63,6 +63,8 @@ enum dimpstea_refusal {
     DIMPSTEA_NOT_IN_HAND = 22,
     DIMPSTEA_DRIFT_ROWS = 23,
     DIMPSTEA_GAIN = 24,
+    DIMPSTEA_DRAW_STATE = 29,
+    DIMPSTEA_DRAWS_SPENT = 30,
 };
 
 /* The words of a condition. */
@@ -118,6 +120,10 @@ static inline const char *dimpstea_refusal_words(uint32_t number) {
         return "drift row length or part outside -1 to 1";
     case DIMPSTEA_GAIN:
         return "gain not finite and above 0";
+    case DIMPSTEA_DRAW_STATE:
+        return "a generator's state above 24 bits, or a draw limit outside 1 to 4,096";
+    case DIMPSTEA_DRAWS_SPENT:
+        return "a row's draws spent with markers still missing";
     default:
         return "no condition has this number";
     }
@@ -331,6 +337,14 @@ uint32_t dimpstea_meter(uint32_t bandwidth, uint32_t record,
                         const uint8_t *sent, size_t sent_len,
                         const uint8_t *read, size_t read_len,
                         uint64_t *differing);
+
+/*
+ * Conditions 1 2 29 11 30. Draws a marker table from the 24-bit generator's state, each carrier's row with at most
+ * limit draws, 1 to 4,096; *state becomes the state after the last draw. Every call accepts the table. After a refusal,
+ * 30 included, *state and out are as they were. out_len is nc x (markers + nsym).
+ */
+uint32_t dimpstea_draw_markers(uint32_t bandwidth, uint32_t record, uint32_t *state, uint32_t limit,
+                               uint16_t *out, size_t out_len);
 
 #ifdef __cplusplus
 }

@@ -2,6 +2,7 @@
 mod count;
 mod cutting;
 mod demapping;
+mod drawing;
 mod faults;
 mod holds;
 mod inputs;
@@ -51,5 +52,6 @@ fn main() -> ExitCode {
     replay::run(count);
     payloads::run(cases, random, count);
     faults::run(20 * cases, random, count);
+    drawing::run(cases, random, count);
     count.report()
 }

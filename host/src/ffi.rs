@@ -153,4 +153,13 @@ extern "C" {
         read_len: usize,
         differing: *mut u64,
     ) -> u32;
+
+    pub fn dimpstea_draw_markers(
+        bandwidth: u32,
+        record: u32,
+        state: *mut u32,
+        limit: u32,
+        out: *mut u16,
+        out_len: usize,
+    ) -> u32;
 }

@@ -15,6 +15,7 @@
 //! | `phases` | nc |
 //! | `waves` | 2 x nc x window |
 //! | `out` | nc x window for [`nco_phase`], window for [`carrier_audio`], n for [`read`] and [`payload_bits`] |
+//! | `out` of [`draw_markers`] | nc x (markers + nsym) |
 //! | `book` | 6,000 |
 //! | `state`, `numbers`, `hold`, `result` | [`STATE`], [`LAYOUT`], [`HOLD`], and [`LOCATED`] or [`READING`] |
 //! | `memory` | 2 x (1 + 3 x nc) x (2 x keep + 4000) |
@@ -325,6 +326,13 @@ pub fn meter(bandwidth: u32, record: u32, sent: &[u8], read: &[u8]) -> Result<u6
         ffi::dimpstea_meter(bandwidth, record, sent.as_ptr(), sent.len(), read.as_ptr(), read.len(), &mut differing)
     })?;
     Ok(differing)
+}
+
+/// A marker table drawn from a state, which becomes the one after the last draw: conditions 1 2 29 11 30.
+///
+/// After a refusal the state and the table are as they were.
+pub fn draw_markers(bandwidth: u32, record: u32, state: &mut u32, limit: u32, out: &mut [u16]) -> Result<(), Refusal> {
+    judged(unsafe { ffi::dimpstea_draw_markers(bandwidth, record, state, limit, out.as_mut_ptr(), out.len()) })
 }
 
 /// The three numbers that a release is handed over in.

@@ -42,6 +42,8 @@ impl Refusal {
             22 => "the frame isn't in hand",
             23 => "drift row length or part outside -1 to 1",
             24 => "gain not finite and above 0",
+            29 => "a generator's state above 24 bits, or a draw limit outside 1 to 4,096",
+            30 => "a row's draws spent with markers still missing",
             _ => "no condition of document 01",
         }
     }

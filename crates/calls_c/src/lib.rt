@@ -5,6 +5,8 @@ ghost use Rattle.calls_c.specs.Calls.{ModulateCall, NcoPhaseCall, Carrie
 use meter::Metered;
 use refusal::Place;
 
+mod draw_markers;
+
 // The rows of all carriers.
 #[no_mangle]
 pub extern "C" fn dimpstea_modulate(
