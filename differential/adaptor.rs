@@ -4,12 +4,13 @@
 
 use super::{Ctx, PskEngine};
 use crate::constellation::constellation;
-use crate::dat::hf_tables;
+use crate::dat::{hf_tables, psk_other};
 use crate::demap::demapper;
 use crate::dsp::{Hold, Track};
 use crate::hf::level::{Bandwidth, Level, Record, Waveform};
 use crate::hf::psk::{interp16_taps, modulate, nco_phase, pulse_taps, stagger};
 use crate::keeper::Keeper;
+use crate::rnd::VbRnd;
 use num_complex::Complex64;
 use std::mem::{swap, take};
 
@@ -90,6 +91,31 @@ impl Layout {
     /// The reference's own marker table, values and then flags.
     pub fn own_markers(self) -> Vec<u16> {
         take(&mut hf_tables(self.bandwidth)[self.record.index()].other)
+    }
+
+    /// The marker table that the reference draws from a generator's state, and the state after it.
+    pub fn drawn_markers(self, state: u32) -> (Vec<u16>, u32) {
+        let mut generator = VbRnd::from_state(state);
+        let table = psk_other(&mut generator, self.level());
+        (table, generator.state())
+    }
+
+    /// How many draws the reference's generator needs for each carrier's markers.
+    pub fn row_draws(self, state: u32) -> Vec<u32> {
+        let mut generator = VbRnd::from_state(state);
+        let level = self.level();
+        let row = |_| {
+            let (mut values, mut draws) = (Vec::new(), 0);
+            while values.len() < level.markers() as usize {
+                let value = generator.draw(level.spf() - 8);
+                draws += 1;
+                if !values.contains(&value) {
+                    values.push(value);
+                }
+            }
+            draws
+        };
+        (0..level.nc()).map(row).collect()
     }
 }
 

@@ -122,7 +122,7 @@ def bottom(new):
 
 
 # Taken as they are.
-WHOLE = ["constellation.rs", "fec.rs", "rnd.rs", "dat.rs", "fm/level.rs", "hf/level.rs"]
+WHOLE = ["constellation.rs", "fec.rs", "rnd.rs", "fm/level.rs", "hf/level.rs"]
 
 NORM = "use crate::stand_ins::Norm;"
 WAVE = "&(dyn Fn(f32) -> (f64, f64) + Sync)"
@@ -209,6 +209,7 @@ EDITS = [
     ("adaptor", "hf/rx/psk.rs", bottom("pub mod adaptor;")),
     ("adaptor: a hold's candidate", "dsp.rs", before("best: Option<(i64, f64, X)>", "pub(crate) ")),
     ("adaptor: a hold's block", "dsp.rs", before("block: i64,", "pub(crate) ")),
+    ("adaptor: markers from a state", "dat.rs", before("fn psk_other(", "pub(crate) ")),
 ]
 
 

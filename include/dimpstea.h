@@ -65,6 +65,8 @@ enum dimpstea_refusal {
     DIMPSTEA_GAIN = 24,
     DIMPSTEA_PILOT_SUM = 25,
     DIMPSTEA_MEDIAN = 26,
+    DIMPSTEA_DRAW_STATE = 29,
+    DIMPSTEA_DRAWS_SPENT = 30,
     DIMPSTEA_ALPHABET_SIZE = 31,
     DIMPSTEA_STEP_SIZE = 32,
     DIMPSTEA_NOISE_VARIANCE = 33,
@@ -123,10 +125,14 @@ static inline const char *dimpstea_refusal_words(uint32_t number) {
         return "drift row length or part outside -1 to 1";
     case DIMPSTEA_GAIN:
         return "gain not finite and above 0";
-    case DIMPSTEA_MEDIAN:
-        return "median not from 0 to 2, or M is 0";
     case DIMPSTEA_PILOT_SUM:
         return "pilot sum with a part not finite or above 64 in size, or whose truncated parts are both zero";
+    case DIMPSTEA_MEDIAN:
+        return "median not from 0 to 2, or M is 0";
+    case DIMPSTEA_DRAW_STATE:
+        return "a generator's state above 24 bits, or a draw limit outside 1 to 4,096";
+    case DIMPSTEA_DRAWS_SPENT:
+        return "a row's draws spent with markers still missing";
     case DIMPSTEA_ALPHABET_SIZE:
         return "alphabet size other than 2, 4, 8, 16 or 32";
     case DIMPSTEA_STEP_SIZE:
@@ -394,6 +400,14 @@ uint32_t dimpstea_by_carrier(uint32_t bandwidth, uint32_t record,
  */
 uint32_t dimpstea_soft_step(size_t size, double re, double im, double nvar,
                             double *out, size_t out_len);
+
+/*
+ * Conditions 1 2 29 11 30. Draws a marker table from the 24-bit generator's state, each carrier's row with at most
+ * limit draws, 1 to 4,096; *state becomes the state after the last draw. Every call accepts the table. After a refusal,
+ * 30 included, *state and out are as they were. out_len is nc x (markers + nsym).
+ */
+uint32_t dimpstea_draw_markers(uint32_t bandwidth, uint32_t record, uint32_t *state, uint32_t limit,
+                               uint16_t *out, size_t out_len);
 
 #ifdef __cplusplus
 }

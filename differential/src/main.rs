@@ -3,6 +3,7 @@ mod count;
 mod cutting;
 mod decibels;
 mod demapping;
+mod drawing;
 mod faults;
 mod holds;
 mod inputs;
@@ -60,5 +61,6 @@ fn main() -> ExitCode {
     decibels::run(5_000 * cases, random, count);
     residuals::run(50 * cases, random, count);
     soft_order::run(cases / 10 + 1, random, count);
+    drawing::run(cases, random, count);
     count.report()
 }

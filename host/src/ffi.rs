@@ -178,4 +178,12 @@ extern "C" {
         out_len: usize,
     ) -> u32;
     pub fn dimpstea_soft_step(size: usize, re: f64, im: f64, nvar: f64, out: *mut f64, out_len: usize) -> u32;
+    pub fn dimpstea_draw_markers(
+        bandwidth: u32,
+        record: u32,
+        state: *mut u32,
+        limit: u32,
+        out: *mut u16,
+        out_len: usize,
+    ) -> u32;
 }

@@ -15,6 +15,7 @@
 //! | `phases` | nc |
 //! | `waves` | 2 x nc x window |
 //! | `out` | nc x window for [`nco_phase`], window for [`carrier_audio`], n for [`read`] and [`payload_bits`], a label's bits for [`soft_step`] |
+//! | `out` of [`draw_markers`] | nc x (markers + nsym) |
 //! | `book` | 6,000 |
 //! | `state`, `numbers`, `hold`, `result` | [`STATE`], [`LAYOUT`], [`HOLD`], and [`LOCATED`] or [`READING`] |
 //! | `memory` | 2 x (1 + 3 x nc) x (2 x keep + 4000) |
@@ -362,6 +363,13 @@ pub fn by_carrier(bandwidth: u32, record: u32, markers: &[u16], timed: &[f64], o
             out.len(),
         )
     })
+}
+
+/// A marker table drawn from a state, which becomes the one after the last draw: conditions 1 2 29 11 30.
+///
+/// After a refusal the state and the table are as they were.
+pub fn draw_markers(bandwidth: u32, record: u32, state: &mut u32, limit: u32, out: &mut [u16]) -> Result<(), Refusal> {
+    judged(unsafe { ffi::dimpstea_draw_markers(bandwidth, record, state, limit, out.as_mut_ptr(), out.len()) })
 }
 
 /// The three numbers that a release is handed over in.

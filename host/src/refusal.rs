@@ -5,7 +5,7 @@ use std::{error::Error, fmt};
 pub struct Refusal(u32);
 
 impl Refusal {
-    /// The refusal of this number. The modem itself answers 1 to 26 and 31 to 33.
+    /// The refusal of this number. The modem itself answers 1 to 26 and 29 to 33.
     pub const fn new(number: u32) -> Self {
         Self(number)
     }
@@ -44,6 +44,8 @@ impl Refusal {
             24 => "gain not finite and above 0",
             25 => "pilot sum with a part not finite or above 64 in size, or whose truncated parts are both zero",
             26 => "median not from 0 to 2, or M is 0",
+            29 => "a generator's state above 24 bits, or a draw limit outside 1 to 4,096",
+            30 => "a row's draws spent with markers still missing",
             31 => "alphabet size other than 2, 4, 8, 16 or 32",
             32 => "step part not finite or above 2^20 in size",
             33 => "noise variance not finite or outside 0.001 to 2^60",

@@ -1,4 +1,4 @@
-use crate::{Complex, Layout};
+use crate::{raw, Complex, Layout, Refusal};
 
 /// A marker table and phasors, as every call that takes tables is lent them.
 #[derive(Clone, Debug, PartialEq)]
@@ -26,5 +26,15 @@ impl Tables {
         }
         let markers = values.iter().copied().chain(flags).collect();
         Self { markers, phasors }
+    }
+
+    /// The table of markers drawn from the 24-bit generator's state, which becomes the one after the last draw.
+    ///
+    /// Each carrier's row has at most `limit` draws, 1 to 4,096 of them. Every call accepts the table; where a row's
+    /// draws are spent (30) the state is as it was.
+    pub fn drawn(layout: &Layout, state: &mut u32, limit: u32, phasors: Vec<Complex>) -> Result<Self, Refusal> {
+        let mut markers = vec![0; layout.carriers * (layout.markers + layout.nsym)];
+        raw::draw_markers(layout.bandwidth, layout.record, state, limit, &mut markers)?;
+        Ok(Self { markers, phasors })
     }
 }

@@ -9,12 +9,15 @@ pub struct Words {
     /// Prints the program's own tables of a layout instead, in the form that --tables reads
     #[arg(long, value_name = "LAYOUT", value_parser = cli::layout)]
     tables: Option<Layout>,
+    /// The seed that the marks of --tables are drawn from, below 2^24
+    #[arg(long, default_value_t = tables::SEED, value_name = "SEED", requires = "tables")]
+    marker_seed: u32,
 }
 
 /// Prints them.
 pub fn run(words: &Words) -> Result<(), Error> {
     if let Some(layout) = &words.tables {
-        return output::line(&tables::own_text(layout));
+        return output::line(&tables::own_text(layout, words.marker_seed)?);
     }
     output::line("layout   payload bits  frame s  bits/s  carriers in Hz")?;
     for (bandwidth, record) in Layout::ALL {

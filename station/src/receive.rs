@@ -22,6 +22,9 @@ pub struct Words {
     /// Marker tables and phasors; without it the program's own
     #[arg(long, value_name = "FILE")]
     tables: Option<PathBuf>,
+    /// The seed that the program's own marks are drawn from, below 2^24: both ends need the same
+    #[arg(long, default_value_t = tables::SEED, value_name = "SEED", conflicts_with = "tables")]
+    marker_seed: u32,
     /// The channel of the recording, from 1 on
     #[arg(long, default_value_t = 1, value_parser = clap::value_parser!(u16).range(1..))]
     channel: u16,
@@ -125,18 +128,19 @@ pub fn run(words: &Words) -> Result<(), Error> {
 fn desks(words: &Words) -> Result<Vec<Desk>, Error> {
     let chosen = match (&words.layout[..], &words.tables) {
         ([], None) => {
-            let all = Layout::ALL.iter().map(|&(bandwidth, record)| Layout::choose(bandwidth, record));
-            let all = all.map(|layout| {
-                layout.map(|layout| {
-                    let tables = tables::own(&layout);
-                    (layout, tables)
-                })
+            let all = Layout::ALL.iter().map(|&(bandwidth, record)| {
+                let layout = Layout::choose(bandwidth, record)
+                    .map_err(|r| Error::refused("layout", r, "build the library again"))?;
+                let tables = tables::own(&layout, words.marker_seed)?;
+                Ok((layout, tables))
             });
-            all.collect::<Result<_, _>>().map_err(|r| Error::refused("layout", r, "build the library again"))?
+            all.collect::<Result<_, Error>>()?
         }
         ([], Some(file)) => tables::all(file)?,
         (layouts, file) => {
-            let loaded = layouts.iter().map(|layout| Ok((layout.clone(), tables::load(layout, file.as_deref())?)));
+            let loaded = layouts
+                .iter()
+                .map(|layout| Ok((layout.clone(), tables::load(layout, file.as_deref(), words.marker_seed)?)));
             loaded.collect::<Result<_, Error>>()?
         }
     };

@@ -22,6 +22,9 @@ pub struct Words {
     /// Marker tables and phasors; without it the program's own
     #[arg(long, value_name = "FILE")]
     tables: Option<PathBuf>,
+    /// The seed that the program's own marks are drawn from, below 2^24: both ends need the same
+    #[arg(long, default_value_t = tables::SEED, value_name = "SEED", conflicts_with = "tables")]
+    marker_seed: u32,
     /// The seed of the references and leads
     #[arg(long, default_value_t = 1)]
     seed: u64,
@@ -59,7 +62,7 @@ pub fn scale(layout: &Layout) -> f64 {
 /// Does what they ask for.
 pub fn run(words: &Words) -> Result<(), Error> {
     let layout = &words.layout;
-    let tables = tables::load(layout, words.tables.as_deref())?;
+    let tables = tables::load(layout, words.tables.as_deref(), words.marker_seed)?;
     let mut bits = payload(&words.payload, words.packed)?;
     let filled = (layout.payload - bits.len() % layout.payload) % layout.payload;
     bits.resize(bits.len() + filled, 0);

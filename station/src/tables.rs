@@ -13,6 +13,12 @@ use std::f64::consts::TAU;
 use std::fmt::Write;
 use std::path::Path;
 
+/// The seed of the program's own marks where none is given: the state that rnd.rs starts with.
+pub const SEED: u32 = 0x05_0000;
+
+/// The most draws of a carrier's marks: all that the modem allows.
+const DRAWS: u32 = 4096;
+
 /// The marks and angles that tables are made of, carrier after carrier.
 #[derive(Clone, Debug, Default, PartialEq)]
 pub struct Numbers {
@@ -21,16 +27,16 @@ pub struct Numbers {
 }
 
 impl Numbers {
-    /// The program's own numbers of a layout.
-    fn own(layout: &Layout) -> Self {
+    /// The program's own numbers of a layout: the modem's generator draws the marks from the seed.
+    fn own(layout: &Layout, seed: u32) -> Result<Self, Error> {
+        let mut state = seed;
+        let drawn = Tables::drawn(layout, &mut state, DRAWS, Vec::new());
+        let drawn = drawn.map_err(|refusal| Error::refused("draw_markers", refusal, "give another --marker-seed"))?;
+        let mut markers = drawn.markers;
+        markers.truncate(layout.carriers * layout.markers);
         let mut random = Random::of(1, &[layout.bandwidth.into(), layout.record.into()]);
-        let mut markers = Vec::new();
-        for _ in 0..layout.carriers {
-            let mut free: Vec<u16> = (5..=layout.spf as u16 - 4).collect();
-            markers.extend((0..layout.markers).map(|_| free.swap_remove(random.below(free.len()))));
-        }
         let angles = (0..layout.phasor_count()).map(|_| TAU * random.unit()).collect();
-        Self { markers, angles }
+        Ok(Self { markers, angles })
     }
 
     fn tables(self, layout: &Layout) -> Tables {
@@ -38,14 +44,14 @@ impl Numbers {
     }
 }
 
-/// The program's own tables of a layout: the same on every machine, in `send`, `receive` and `trial`.
-pub fn own(layout: &Layout) -> Tables {
-    Numbers::own(layout).tables(layout)
+/// The program's own tables of a layout and a seed: the same on every machine, in `send`, `receive` and `trial`.
+pub fn own(layout: &Layout, seed: u32) -> Result<Tables, Error> {
+    Ok(Numbers::own(layout, seed)?.tables(layout))
 }
 
-/// The program's own tables of a layout, as a file has them.
-pub fn own_text(layout: &Layout) -> String {
-    let numbers = Numbers::own(layout);
+/// The program's own tables of a layout and a seed, as a file has them.
+pub fn own_text(layout: &Layout, seed: u32) -> Result<String, Error> {
+    let numbers = Numbers::own(layout, seed)?;
     let mut text = format!("layout {}/{}\n", layout.bandwidth, layout.record);
     let mut row = |word: &str, numbers: Vec<String>| {
         let _ = writeln!(text, "{word} {}", numbers.join(" "));
@@ -57,13 +63,13 @@ pub fn own_text(layout: &Layout) -> String {
         row("phasors", angles.iter().map(f64::to_string).collect());
     }
     text.pop();
-    text
+    Ok(text)
 }
 
 /// The tables of a file for one layout, or the program's own where no file is given.
-pub fn load(layout: &Layout, file: Option<&Path>) -> Result<Tables, Error> {
+pub fn load(layout: &Layout, file: Option<&Path>, seed: u32) -> Result<Tables, Error> {
     let path = match file {
-        None => return Ok(own(layout)),
+        None => return own(layout, seed),
         Some(path) => path,
     };
     let found = all(path)?.into_iter().find(|(of, _)| of == layout);

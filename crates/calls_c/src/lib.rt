@@ -5,6 +5,7 @@ ghost use Rattle.psk.specs.Symbols.{sending};
 ghost use Rattle.calls_c.specs.Calls.{ModulateCall, NcoPhaseCall, CarrierAudioCall, PayloadBitsCall, MeterCall};
 ghost use Rattle.calls_c.specs.Steps.{SoftStepCall};
 
+mod draw_markers;
 mod pilot_sum;
 mod soft_order;
 mod tenths;

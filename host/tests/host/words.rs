@@ -37,6 +37,12 @@ fn each_refusal_says_its_condition() {
         assert_eq!((refusal.number(), refusal.meaning()), (number, words));
         assert_eq!(refusal.to_string(), format!("refused {number}: {words}"));
     }
+    for (number, words) in [
+        (29, "a generator's state above 24 bits, or a draw limit outside 1 to 4,096"),
+        (30, "a row's draws spent with markers still missing"),
+    ] {
+        assert_eq!(Refusal::new(number).meaning(), words);
+    }
     for number in [0, 34, u32::MAX] {
         assert_eq!(Refusal::new(number).meaning(), "no condition of document 01");
     }

@@ -45,7 +45,7 @@ mod tests {
     fn as_many_cells_as_the_payload_fills() {
         for (bandwidth, record) in Layout::ALL {
             let layout = Layout::choose(bandwidth, record).unwrap();
-            let cells = cells(&layout, &tables::own(&layout));
+            let cells = cells(&layout, &tables::own(&layout, tables::SEED).unwrap());
             assert_eq!(cells.len() * layout.bps, layout.payload, "{bandwidth}/{record}");
             assert!(cells.windows(2).all(|pair| pair[0] < pair[1]));
         }

@@ -50,7 +50,7 @@ enum Stream {
 impl Setting {
     /// Frames of a layout with the program's own tables, through a channel.
     pub fn new(layout: &Layout, fading: Option<Fading>, offset_hz: f64, seed: u64) -> Result<Self, Error> {
-        let tables = tables::own(layout);
+        let tables = tables::own(layout, tables::SEED)?;
         let front_end = FrontEnd::new(48_000, Path::new("the trial's audio"))?;
         let (cells, book) = (cells::cells(layout, &tables), rows::turn_book());
         Ok(Self { layout: layout.clone(), tables, cells, book, front_end, fading, offset_hz, seed })

@@ -163,6 +163,17 @@ fn shifted_recordings_are_read_with_drift_rows() {
     }
 }
 
+/// The program's own marks are drawn from a seed, which both ends need to give alike.
+#[test]
+fn own_marks_go_by_a_seed() {
+    let folder = folder("seed");
+    fs::write(folder.join("p.txt"), "01".repeat(374)).unwrap();
+    typed(&folder, "send -l 500/4 p.txt -o seed.wav --marker-seed 5");
+    assert_eq!(typed(&folder, "receive seed.wav -l 500/4 --marker-seed 5").status.code(), Some(0));
+    assert_eq!(typed(&folder, "receive seed.wav -l 500/4").status.code(), Some(1));
+    assert_eq!(typed(&folder, "receive seed.wav -l 500/4 --marker-seed 16777216").status.code(), Some(4));
+}
+
 /// Tables that are written to a file and given back are the program's own; with others nothing is found.
 #[test]
 fn tables_come_from_a_file() {

@@ -1,0 +1,4 @@
+pub mod RowLaws
+pub mod RowsLaws
+pub mod CallLaws
+pub mod Accepted
