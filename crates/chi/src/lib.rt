@@ -100,7 +100,7 @@ fn references(l: Layout, phasors: &[f64], sum: Sum, c: usize, symbols: &[usize],
 }
 
 // A carrier's row of a sum's tables, by way of room for its symbols.
-fn row_through(
+fn row_with_room(
     l: Layout,
     markers: &[u16],
     phasors: &[f64],
@@ -136,7 +136,7 @@ fn row(
 {
     let n = offs.len();
     let mut room = [0usize; 450];
-    row_through(l, markers, phasors, sum, c, &mut room[0..n], offs, refs)
+    row_with_room(l, markers, phasors, sum, c, &mut room[0..n], offs, refs)
 }
 
 // The tables of a sum, carrier by carrier: the place and the reference of each of its cells.

@@ -16,7 +16,7 @@ use level::Layout;
 use marks::Kind;
 
 // The turn of the marks' steps, by way of room for their places.
-fn turn_through(l: Layout, markers: &[u16], z: &[f64], places: &mut [usize]) -> Complex
+fn turn_with_room(l: Layout, markers: &[u16], z: &[f64], places: &mut [usize]) -> Complex
     requires { ⌜ Framed l (now markers) (length (now z)) × (length (now places) ≡ l .nc * l .markers) ⌝ }
     ensures { λ r. ⌜ r ≡ coherenceTurn l (now (markers .entry)) (pairs (now (z .entry))) ⌝ }
 {
@@ -31,7 +31,7 @@ fn turn(l: Layout, markers: &[u16], z: &[f64]) -> Complex
 {
     let m = l.nc * l.markers;
     let mut places = [0usize; 40];
-    turn_through(l, markers, z, &mut places[0..m])
+    turn_with_room(l, markers, z, &mut places[0..m])
 }
 
 // Symbols packed by carrier become steps packed by carrier, turned; the rest of the scratch is zero.
@@ -55,7 +55,7 @@ pub fn median(l: Layout, markers: &[u16], z: &[f64]) -> f64
 }
 
 // The noise variance, by way of room for the marks' places.
-fn variance_through(l: Layout, markers: &[u16], steps: &[f64], places: &mut [usize]) -> f64
+fn variance_with_room(l: Layout, markers: &[u16], steps: &[f64], places: &mut [usize]) -> f64
     requires { ⌜ Framed l (now markers) (length (now steps)) × (length (now places) ≡ l .nc * l .markers) ⌝ }
     ensures { λ r. ⌜ r ≡ varianceIn l (now (markers .entry)) (λ k. cget (now (steps .entry)) k) ⌝ }
 {
@@ -70,11 +70,11 @@ pub fn variance(l: Layout, markers: &[u16], steps: &[f64]) -> f64
 {
     let m = l.nc * l.markers;
     let mut places = [0usize; 40];
-    variance_through(l, markers, steps, &mut places[0..m])
+    variance_with_room(l, markers, steps, &mut places[0..m])
 }
 
 // The soft bits, by way of room for the cells' places.
-fn soft_through(
+fn soft_with_room(
     l: Layout,
     markers: &[u16],
     steps: &[f64],
@@ -99,5 +99,5 @@ pub fn soft_bits(l: Layout, markers: &[u16], steps: &[f64], nvar: f64, out: &mut
 {
     let n = l.nc * (l.nsym - 1 - l.markers);
     let mut places = [0usize; 4472];
-    soft_through(l, markers, steps, nvar, &mut places[0..n], out)
+    soft_with_room(l, markers, steps, nvar, &mut places[0..n], out)
 }

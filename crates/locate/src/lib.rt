@@ -150,7 +150,7 @@ fn locate_tables(
 }
 
 // Locating, by way of room for the tables.
-fn locate_through(
+fn locate_with_room(
     l: Layout,
     memory: &[f64],
     markers: &[u16],
@@ -204,7 +204,7 @@ pub fn locate_in(
     let mut mark_refs = [0.0; 80];
     let mut cells = [0usize; 1500];
     let mut cell_refs = [0.0; 3000];
-    locate_through(
+    locate_with_room(
         l,
         memory,
         markers,

@@ -120,7 +120,7 @@ fn scatter(l: Layout, markers: &[u16], places: &[usize], soft: &[f64], out: &mut
 }
 
 // The soft bits in order, by way of room for the carriers' counters and the cells' places.
-fn put_through(
+fn put_with_room(
     order: Order,
     l: Layout,
     markers: &[u16],
@@ -148,7 +148,7 @@ fn put(order: Order, l: Layout, markers: &[u16], soft: &[f64], out: &mut [f64])
     let n = l.nc * (l.nsym - 1 - l.markers);
     let mut next = [0usize; 13];
     let mut places = [0usize; 4472];
-    put_through(order, l, markers, soft, &mut next, &mut places[0..n], out)
+    put_with_room(order, l, markers, soft, &mut next, &mut places[0..n], out)
 }
 
 // Conditions 3 to 5, then 11 of either length.

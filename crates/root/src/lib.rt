@@ -332,7 +332,7 @@ fn add_norms(sum: f64, z: &[f64], from: usize, near: &[f64]) -> f64
 }
 
 // The same, by way of room for the estimates.
-fn add_through(sum: f64, z: &[f64], from: usize, near: &mut [f64]) -> f64
+fn add_with_room(sum: f64, z: &[f64], from: usize, near: &mut [f64]) -> f64
     requires { ⌜ (2 * (from + length (now near)) ≤ length (now z))
         × (sum ≡ fsumTo (λ k. normOf (cget (now z) k)) from) ⌝ }
     ensures { λ r. ⌜ r ≡ fsumTo (λ k. normOf (cget (now (z .entry)) k)) (from + length (now (near .entry))) ⌝ }
@@ -348,7 +348,7 @@ fn add_block(sum: f64, z: &[f64], from: usize, m: usize) -> f64
     ensures { λ r. ⌜ r ≡ fsumTo (λ k. normOf (cget (now (z .entry)) k)) (from + m) ⌝ }
 {
     let mut near = [0.0; 64];
-    add_through(sum, z, from, &mut near[0..m])
+    add_with_room(sum, z, from, &mut near[0..m])
 }
 
 // At most 64.

@@ -132,7 +132,7 @@ fn offer_block(
 }
 
 // The search over a block of even positions from p on, by way of planes of zeros for its sums and room for a track.
-fn block_through(
+fn block_with_room(
     memory: &[f64],
     marks: &[usize],
     mark_refs: &[f64],
@@ -187,7 +187,7 @@ fn search_block(
     let mut bi = [0.0; 2048];
     let mut zr = [0.0; 9248];
     let mut zi = [0.0; 9248];
-    block_through(
+    block_with_room(
         memory,
         marks,
         mark_refs,
@@ -259,7 +259,7 @@ fn search_tables(
 }
 
 // The search, by way of room for the tables.
-fn search_through(
+fn search_with_room(
     l: Layout,
     memory: &[f64],
     markers: &[u16],
@@ -324,7 +324,7 @@ pub fn search(
     let mut mark_refs = [0.0; 80];
     let mut cells = [0usize; 1500];
     let mut cell_refs = [0.0; 3000];
-    search_through(
+    search_with_room(
         l,
         memory,
         markers,

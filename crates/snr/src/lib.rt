@@ -136,7 +136,7 @@ fn middle(a: &[f64]) -> f64
 }
 
 // The median, by way of room for the errors.
-fn median_through(prods: &[f64], room: &mut [f64]) -> f64
+fn median_with_room(prods: &[f64], room: &mut [f64]) -> f64
     requires { ⌜ (0 < length (now room)) × (2 * length (now room) ≤ length (now prods)) ⌝ }
     ensures { λ r. ⌜ r ≡ medianOf (λ k. cget (now (prods .entry)) k) (length (now (room .entry))) ⌝ }
 {
@@ -151,5 +151,5 @@ pub fn median(prods: &[f64], n: usize) -> f64
     ensures { λ r. ⌜ r ≡ medianOf (λ k. cget (now (prods .entry)) k) n ⌝ }
 {
     let mut room = [0.0; 40];
-    median_through(prods, &mut room[0..n])
+    median_with_room(prods, &mut room[0..n])
 }

@@ -5,8 +5,8 @@ use borrow.Author.Needs.{needs}
 use Rattle.chi.proofs.row.Statement.{statement}
 use Rattle.chi.proofs.row.Tie as tie
 
-sub-row-through : tie.Need-sub-row-through
-sub-row-through c = search needs
+sub-row-with-room : tie.Need-sub-row-with-room
+sub-row-with-room c = search needs
 
 part-room-start : tie.Need-part-room-start
 part-room-start c = search needs
@@ -14,8 +14,8 @@ part-room-start c = search needs
 part-room-end : tie.Need-part-room-end
 part-room-end c = omega (arith, per-small (c .before .before .before .before .args .sum) _ (c .before .before .before .before .pre .layout))
 
-row-through-requires : tie.Need-row-through-requires
-row-through-requires c κs = search needs
+row-with-room-requires : tie.Need-row-with-room-requires
+row-with-room-requires c κs = search needs
 
 same-length : tie.Need-same-length
 same-length c = search needs
@@ -30,10 +30,10 @@ pub row-spec : {M : Type 1} → statement M
 row-spec =
     tie.close
     (tie.spec
-    sub-row-through
+    sub-row-with-room
     part-room-start
     part-room-end
-    row-through-requires
+    row-with-room-requires
     same-length
     same-length-2
     returns)

@@ -17,8 +17,8 @@ mul-n c =
     let s = c .before .before .before .before .before .before in
     omega (arith, cells-room (s .args .l) (s .pre .0 .layout), sized (s .args .l) (s .pre .0 .layout) .cells-most)
 
-sub-soft-through : tie.Need-sub-soft-through
-sub-soft-through c = search needs
+sub-soft-with-room : tie.Need-sub-soft-with-room
+sub-soft-with-room c = search needs
 
 part-places-start : tie.Need-part-places-start
 part-places-start c = search needs
@@ -28,8 +28,8 @@ part-places-end c =
     let s = c .before .before .before .before .before .before in
     omega (arith, cells-room (s .args .l) (s .pre .0 .layout), sized (s .args .l) (s .pre .0 .layout) .cells-most)
 
-soft-through-requires : tie.Need-soft-through-requires
-soft-through-requires c κs =
+soft-with-room-requires : tie.Need-soft-with-room-requires
+soft-with-room-requires c κs =
     let s = c .before .before .before .before .before .before .before .before in
     let w = sized (s .args .l) (s .pre .0 .layout) in
     let e = cells-room (s .args .l) (s .pre .0 .layout) in
@@ -48,9 +48,9 @@ soft-bits-spec =
     sub-n
     sub-n-2
     mul-n
-    sub-soft-through
+    sub-soft-with-room
     part-places-start
     part-places-end
-    soft-through-requires
+    soft-with-room-requires
     same-length
     returns)

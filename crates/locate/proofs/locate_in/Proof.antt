@@ -22,8 +22,8 @@ mul-n c =
     let s = c .before .before .before .before .before .before .before in
     omega (arith, cells-most (s .args .l) (c .before .per-carrier2 .ensures) (s .pre .layout))
 
-sub-locate-through : tie.Need-sub-locate-through
-sub-locate-through c = search needs
+sub-locate-with-room : tie.Need-sub-locate-with-room
+sub-locate-with-room c = search needs
 
 part-marks-start : tie.Need-part-marks-start
 part-marks-start c = search needs
@@ -33,13 +33,13 @@ part-marks-end c =
     let s = c .before .before .before .before .before .before .before in
     omega (arith, marks-most (s .args .l) (c .before .before .before .per-carrier .ensures) (s .pre .layout))
 
-mul-locate-through : tie.Need-mul-locate-through
-mul-locate-through c =
+mul-locate-with-room : tie.Need-mul-locate-with-room
+mul-locate-with-room c =
     let s = c .before .before .before .before .before .before .before .before in
     omega (arith, marks-most (s .args .l) (c .before .before .before .before .per-carrier .ensures) (s .pre .layout))
 
-sub-locate-through-2 : tie.Need-sub-locate-through-2
-sub-locate-through-2 c = search needs
+sub-locate-with-room-2 : tie.Need-sub-locate-with-room-2
+sub-locate-with-room-2 c = search needs
 
 part-mark-refs-start : tie.Need-part-mark-refs-start
 part-mark-refs-start c = search needs
@@ -49,8 +49,8 @@ part-mark-refs-end c =
     let s = c .before .before .before .before .before .before .before .before in
     omega (arith, marks-most (s .args .l) (c .before .before .before .before .per-carrier .ensures) (s .pre .layout))
 
-sub-locate-through-3 : tie.Need-sub-locate-through-3
-sub-locate-through-3 c = search needs
+sub-locate-with-room-3 : tie.Need-sub-locate-with-room-3
+sub-locate-with-room-3 c = search needs
 
 part-cells-start : tie.Need-part-cells-start
 part-cells-start c = search needs
@@ -60,13 +60,13 @@ part-cells-end c =
     let s = c .before .before .before .before .before .before .before .before .before in
     omega (arith, cells-most (s .args .l) (c .before .before .before .per-carrier2 .ensures) (s .pre .layout))
 
-mul-locate-through-2 : tie.Need-mul-locate-through-2
-mul-locate-through-2 c =
+mul-locate-with-room-2 : tie.Need-mul-locate-with-room-2
+mul-locate-with-room-2 c =
     let s = c .before .before .before .before .before .before .before .before .before .before in
     omega (arith, cells-most (s .args .l) (c .before .before .before .before .per-carrier2 .ensures) (s .pre .layout))
 
-sub-locate-through-4 : tie.Need-sub-locate-through-4
-sub-locate-through-4 c = search needs
+sub-locate-with-room-4 : tie.Need-sub-locate-with-room-4
+sub-locate-with-room-4 c = search needs
 
 part-cell-refs-start : tie.Need-part-cell-refs-start
 part-cell-refs-start c = search needs
@@ -76,8 +76,8 @@ part-cell-refs-end c =
     let s = c .before .before .before .before .before .before .before .before .before .before in
     omega (arith, cells-most (s .args .l) (c .before .before .before .before .per-carrier2 .ensures) (s .pre .layout))
 
-locate-through-requires : tie.Need-locate-through-requires
-locate-through-requires c κs =
+locate-with-room-requires : tie.Need-locate-with-room-requires
+locate-with-room-requires c κs =
     let s = c .before .before .before .before .before .before .before .before .before .before .before in
     let l = s .args .l in
     let m = c .before .before .before .before .before .before .before .per-carrier .ensures in
@@ -97,19 +97,19 @@ locate-in-spec =
     mul-m
     per-carrier-requires-2
     mul-n
-    sub-locate-through
+    sub-locate-with-room
     part-marks-start
     part-marks-end
-    mul-locate-through
-    sub-locate-through-2
+    mul-locate-with-room
+    sub-locate-with-room-2
     part-mark-refs-start
     part-mark-refs-end
-    sub-locate-through-3
+    sub-locate-with-room-3
     part-cells-start
     part-cells-end
-    mul-locate-through-2
-    sub-locate-through-4
+    mul-locate-with-room-2
+    sub-locate-with-room-4
     part-cell-refs-start
     part-cell-refs-end
-    locate-through-requires
+    locate-with-room-requires
     returns)

@@ -17,11 +17,11 @@ mul-n c =
     let s = c .before .before .before .before .before .before in
     omega (arith, cells-room (s .args .l) (s .pre .0 .sized), s .pre .0 .sized .cells-most)
 
-slice-aggregate-put-through : tie.Need-slice-aggregate-put-through
-slice-aggregate-put-through c = search needs
+slice-aggregate-put-with-room : tie.Need-slice-aggregate-put-with-room
+slice-aggregate-put-with-room c = search needs
 
-sub-put-through : tie.Need-sub-put-through
-sub-put-through c = search needs
+sub-put-with-room : tie.Need-sub-put-with-room
+sub-put-with-room c = search needs
 
 part-places-start : tie.Need-part-places-start
 part-places-start c = search needs
@@ -31,8 +31,8 @@ part-places-end c =
     let s = c .before .before .before .before .before .before .before in
     omega (arith, cells-room (s .args .l) (s .pre .0 .sized), s .pre .0 .sized .cells-most)
 
-put-through-requires : tie.Need-put-through-requires
-put-through-requires c κs =
+put-with-room-requires : tie.Need-put-with-room-requires
+put-with-room-requires c κs =
     let s = c .before .before .before .before .before .before .before .before .before in
     let z = s .pre .0 .sized in
     let e = cells-room (s .args .l) z in
@@ -51,10 +51,10 @@ put-spec =
     sub-n
     sub-n-2
     mul-n
-    slice-aggregate-put-through
-    sub-put-through
+    slice-aggregate-put-with-room
+    sub-put-with-room
     part-places-start
     part-places-end
-    put-through-requires
+    put-with-room-requires
     same-length
     returns)

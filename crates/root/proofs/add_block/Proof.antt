@@ -8,8 +8,8 @@ use borrow.Author.Needs.{needs}
 use Rattle.root.proofs.add_block.Statement.{statement}
 use Rattle.root.proofs.add_block.Tie as tie
 
-sub-add-through : tie.Need-sub-add-through
-sub-add-through c = search needs
+sub-add-with-room : tie.Need-sub-add-with-room
+sub-add-with-room c = search needs
 
 part-near-start : tie.Need-part-near-start
 part-near-start c = search needs
@@ -17,14 +17,14 @@ part-near-start c = search needs
 part-near-end : tie.Need-part-near-end
 part-near-end c = search needs
 
-add-through-requires : tie.Need-add-through-requires
-add-through-requires c κs = search needs
+add-with-room-requires : tie.Need-add-with-room-requires
+add-with-room-requires c κs = search needs
 
 returns : tie.Need-returns
 returns c =
     let s = c .before .before .before .before .args in
-    c .before .add-through .ensures ∙ ap (λ (n : ℕ). fsumTo (λ k. normOf (cget (s .z .now) k)) (s .from + n)) (search needs)
+    c .before .add-with-room .ensures ∙ ap (λ (n : ℕ). fsumTo (λ k. normOf (cget (s .z .now) k)) (s .from + n)) (search needs)
 
 pub add-block-spec : {M : Type 1} → statement M
 add-block-spec =
-    tie.close (tie.spec sub-add-through part-near-start part-near-end add-through-requires returns)
+    tie.close (tie.spec sub-add-with-room part-near-start part-near-end add-with-room-requires returns)

@@ -22,8 +22,8 @@ mul-n c =
     let s = c .before .before .before .before .before .before .before in
     omega (arith, cells-most (s .args .l) (c .before .per-carrier2 .ensures) (s .pre .layout))
 
-sub-search-through : tie.Need-sub-search-through
-sub-search-through c = search needs
+sub-search-with-room : tie.Need-sub-search-with-room
+sub-search-with-room c = search needs
 
 part-marks-start : tie.Need-part-marks-start
 part-marks-start c = search needs
@@ -33,13 +33,13 @@ part-marks-end c =
     let s = c .before .before .before .before .before .before .before in
     omega (arith, marks-most (s .args .l) (c .before .before .before .per-carrier .ensures) (s .pre .layout))
 
-mul-search-through : tie.Need-mul-search-through
-mul-search-through c =
+mul-search-with-room : tie.Need-mul-search-with-room
+mul-search-with-room c =
     let s = c .before .before .before .before .before .before .before .before in
     omega (arith, marks-most (s .args .l) (c .before .before .before .before .per-carrier .ensures) (s .pre .layout))
 
-sub-search-through-2 : tie.Need-sub-search-through-2
-sub-search-through-2 c = search needs
+sub-search-with-room-2 : tie.Need-sub-search-with-room-2
+sub-search-with-room-2 c = search needs
 
 part-mark-refs-start : tie.Need-part-mark-refs-start
 part-mark-refs-start c = search needs
@@ -49,8 +49,8 @@ part-mark-refs-end c =
     let s = c .before .before .before .before .before .before .before .before in
     omega (arith, marks-most (s .args .l) (c .before .before .before .before .per-carrier .ensures) (s .pre .layout))
 
-sub-search-through-3 : tie.Need-sub-search-through-3
-sub-search-through-3 c = search needs
+sub-search-with-room-3 : tie.Need-sub-search-with-room-3
+sub-search-with-room-3 c = search needs
 
 part-cells-start : tie.Need-part-cells-start
 part-cells-start c = search needs
@@ -60,13 +60,13 @@ part-cells-end c =
     let s = c .before .before .before .before .before .before .before .before .before in
     omega (arith, cells-most (s .args .l) (c .before .before .before .per-carrier2 .ensures) (s .pre .layout))
 
-mul-search-through-2 : tie.Need-mul-search-through-2
-mul-search-through-2 c =
+mul-search-with-room-2 : tie.Need-mul-search-with-room-2
+mul-search-with-room-2 c =
     let s = c .before .before .before .before .before .before .before .before .before .before in
     omega (arith, cells-most (s .args .l) (c .before .before .before .before .per-carrier2 .ensures) (s .pre .layout))
 
-sub-search-through-4 : tie.Need-sub-search-through-4
-sub-search-through-4 c = search needs
+sub-search-with-room-4 : tie.Need-sub-search-with-room-4
+sub-search-with-room-4 c = search needs
 
 part-cell-refs-start : tie.Need-part-cell-refs-start
 part-cell-refs-start c = search needs
@@ -76,8 +76,8 @@ part-cell-refs-end c =
     let s = c .before .before .before .before .before .before .before .before .before .before in
     omega (arith, cells-most (s .args .l) (c .before .before .before .before .per-carrier2 .ensures) (s .pre .layout))
 
-search-through-requires : tie.Need-search-through-requires
-search-through-requires c κs =
+search-with-room-requires : tie.Need-search-with-room-requires
+search-with-room-requires c κs =
     let s = c .before .before .before .before .before .before .before .before .before .before .before in
     let l = s .args .l in
     let m = c .before .before .before .before .before .before .before .per-carrier .ensures in
@@ -97,19 +97,19 @@ search-spec =
     mul-m
     per-carrier-requires-2
     mul-n
-    sub-search-through
+    sub-search-with-room
     part-marks-start
     part-marks-end
-    mul-search-through
-    sub-search-through-2
+    mul-search-with-room
+    sub-search-with-room-2
     part-mark-refs-start
     part-mark-refs-end
-    sub-search-through-3
+    sub-search-with-room-3
     part-cells-start
     part-cells-end
-    mul-search-through-2
-    sub-search-through-4
+    mul-search-with-room-2
+    sub-search-with-room-4
     part-cell-refs-start
     part-cell-refs-end
-    search-through-requires
+    search-with-room-requires
     returns)

@@ -6,8 +6,8 @@ use borrow.Author.Needs.{needs}
 use Rattle.snr.proofs.median.Statement.{statement}
 use Rattle.snr.proofs.median.Tie as tie
 
-sub-median-through : tie.Need-sub-median-through
-sub-median-through c = search needs
+sub-median-with-room : tie.Need-sub-median-with-room
+sub-median-with-room c = search needs
 
 part-room-start : tie.Need-part-room-start
 part-room-start c = search needs
@@ -15,13 +15,13 @@ part-room-start c = search needs
 part-room-end : tie.Need-part-room-end
 part-room-end c = search needs
 
-median-through-requires : tie.Need-median-through-requires
-median-through-requires c κs = search needs
+median-with-room-requires : tie.Need-median-with-room-requires
+median-with-room-requires c κs = search needs
 
 returns : tie.Need-returns
-returns c = c .before .median-through .ensures ∙ ap (medianOf (λ k. cget (c .before .before .before .before .args .prods .now) k)) (search needs)
+returns c = c .before .median-with-room .ensures ∙ ap (medianOf (λ k. cget (c .before .before .before .before .args .prods .now) k)) (search needs)
 
 pub median-spec : {M : Type 1} → statement M
 median-spec =
     tie.close
-    (tie.spec sub-median-through part-room-start part-room-end median-through-requires returns)
+    (tie.spec sub-median-with-room part-room-start part-room-end median-with-room-requires returns)

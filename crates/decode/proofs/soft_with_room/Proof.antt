@@ -1,4 +1,4 @@
--- `decode::soft_through` meets its contract: the soft bits of the cells at their places. Assumes nothing.
+-- `decode::soft_with_room` meets its contract: the soft bits of the cells at their places. Assumes nothing.
 use Prim.Native.Nat.{ℕ}
 use mathlib.Core.Path.{ap, _∙_}
 use mathlib.Core.List.{List}
@@ -7,8 +7,8 @@ use Rattle.soft.specs.SoftCells.{softCells}
 use Rattle.marks.specs.declared.Kind.the-variants as kind
 use Rattle.decode.specs.Places.{soft-room, steps-inside, soft-are}
 use borrow.Author.Needs.{needs}
-use Rattle.decode.proofs.soft_through.Statement.{statement}
-use Rattle.decode.proofs.soft_through.Tie as tie
+use Rattle.decode.proofs.soft_with_room.Statement.{statement}
+use Rattle.decode.proofs.soft_with_room.Tie as tie
 
 sub-places : tie.Need-sub-places
 sub-places c = search needs
@@ -39,7 +39,7 @@ returns c =
     c .before .before .soft-cells .ensures ∙ ap (λ (x : List ℕ). softCells (s .args .l .bps) (s .args .steps .now) x (s .args .nvar)) (c .before .before .before .before .before .before .before .places .ensures)
     ∙ soft-are (s .args .l) (s .args .markers .now) (s .args .steps .now) (s .pre .0 .markers-ok) (s .pre .0 .layout) (s .args .nvar)
 
-pub soft-through-spec : {M : Type 1} → statement M
-soft-through-spec =
+pub soft-with-room-spec : {M : Type 1} → statement M
+soft-with-room-spec =
     tie.close
     (tie.spec sub-places places-requires soft-cells-requires same-length same-length-2 returns)

@@ -1,11 +1,11 @@
--- `decode::variance_through` meets its contract: the noise of the marks at their places. Assumes nothing.
+-- `decode::variance_with_room` meets its contract: the noise of the marks at their places. Assumes nothing.
 use mathlib.Core.Path.{ap, _∙_}
 use Rattle.eq.specs.Noise.{noiseOf}
 use Rattle.marks.specs.declared.Kind.the-variants as kind
 use Rattle.decode.specs.Places.{steps-inside, noise-is}
 use borrow.Author.Needs.{needs}
-use Rattle.decode.proofs.variance_through.Statement.{statement}
-use Rattle.decode.proofs.variance_through.Tie as tie
+use Rattle.decode.proofs.variance_with_room.Statement.{statement}
+use Rattle.decode.proofs.variance_with_room.Tie as tie
 
 sub-places : tie.Need-sub-places
 sub-places c = search needs
@@ -26,6 +26,6 @@ returns c =
     let s = c .before .before .before .before .before .before .before .before .before .before in
     c .noise-variance .ensures ∙ ap (noiseOf (s .args .steps .now)) (c .before .before .before .before .places .ensures) ∙ noise-is (s .args .l) (s .args .markers .now) (s .args .steps .now)
 
-pub variance-through-spec : {M : Type 1} → statement M
-variance-through-spec =
+pub variance-with-room-spec : {M : Type 1} → statement M
+variance-with-room-spec =
     tie.close (tie.spec sub-places places-requires noise-variance-requires same-length returns)

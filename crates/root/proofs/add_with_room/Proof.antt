@@ -1,4 +1,4 @@
--- `root::add_through` meets its contract: as many norms as there is room for. Assumes nothing.
+-- `root::add_with_room` meets its contract: as many norms as there is room for. Assumes nothing.
 use Prim.Native.Nat.{ℕ, _+_}
 use mathlib.Core.Path.{_≡_, ap, _∙_}
 use native.Mathlib.Omega.{arith}
@@ -7,8 +7,8 @@ use Rattle.complex.specs.Sums.{fsumTo}
 use Rattle.complex.specs.Pairs.{cget}
 use Rattle.root.specs.Root.{normOf}
 use borrow.Author.Needs.{needs}
-use Rattle.root.proofs.add_through.Statement.{statement}
-use Rattle.root.proofs.add_through.Tie as tie
+use Rattle.root.proofs.add_with_room.Statement.{statement}
+use Rattle.root.proofs.add_with_room.Tie as tie
 
 estimates-requires : tie.Need-estimates-requires
 estimates-requires c κs = search needs
@@ -24,5 +24,5 @@ returns c =
     let s = c .before .before .before .before .before .before .before .before .args in
     c .add-norms .ensures ∙ ap (λ (n : ℕ). fsumTo (λ k. normOf (cget (s .z .now) k)) (s .from + n)) (search needs)
 
-pub add-through-spec : {M : Type 1} → statement M
-add-through-spec = tie.close (tie.spec estimates-requires add-norms-requires same-length returns)
+pub add-with-room-spec : {M : Type 1} → statement M
+add-with-room-spec = tie.close (tie.spec estimates-requires add-norms-requires same-length returns)

@@ -1,4 +1,4 @@
--- `chi::row_through` meets its contract: places and references of the symbols that were found. Assumes nothing.
+-- `chi::row_with_room` meets its contract: places and references of the symbols that were found. Assumes nothing.
 use Prim.Native.Nat.{ℕ, _*_}
 use mathlib.Core.Path.{sym, ap, _∙_}
 use mathlib.Core.List.{List, map}
@@ -7,8 +7,8 @@ use Rattle.dat.specs.Cells.{cellAt}
 use Rattle.chi.specs.Table.{placeOf, referenceFor}
 use Rattle.chi.proofs.Laws.{row-of, row-length}
 use borrow.Author.Needs.{needs}
-use Rattle.chi.proofs.row_through.Statement.{statement}
-use Rattle.chi.proofs.row_through.Tie as tie
+use Rattle.chi.proofs.row_with_room.Statement.{statement}
+use Rattle.chi.proofs.row_with_room.Tie as tie
 
 symbols-requires : tie.Need-symbols-requires
 symbols-requires c κs = search needs
@@ -51,8 +51,8 @@ returns c =
       references = c .before .before .references .ensures ∙ ap (λ (v : List ℕ). parts (map (referenceFor (s .sum) (s .l) (s .phasors .now) (s .c)) v)) e;
     }
 
-pub row-through-spec : {M : Type 1} → statement M
-row-through-spec =
+pub row-with-room-spec : {M : Type 1} → statement M
+row-with-room-spec =
     tie.close
     (tie.spec
     symbols-requires

@@ -1,9 +1,9 @@
--- `search::search_through` meets its contract: the tables that it builds are those of the cells. Assumes nothing.
+-- `search::search_with_room` meets its contract: the tables that it builds are those of the cells. Assumes nothing.
 use Rattle.search.specs.Chi.{Tables}
 use Rattle.search.proofs.Built.{built-fits, built-searched}
 use borrow.Author.Needs.{needs}
-use Rattle.search.proofs.search_through.Statement.{statement}
-use Rattle.search.proofs.search_through.Tie as tie
+use Rattle.search.proofs.search_with_room.Statement.{statement}
+use Rattle.search.proofs.search_with_room.Tie as tie
 
 table-requires : tie.Need-table-requires
 table-requires c κs = search needs
@@ -41,8 +41,8 @@ returns c =
     let cells = c .before .before .before .before .before .before .before .before .before .table2 .ensures in
     built-searched (a .l) t (a .memory .now) (a .step) (a .power) (a .lo) (a .count) (a .h) (s .pre .0) _ _ _ _ marks cells (c .search-tables .result) (c .search-tables .ensures)
 
-pub search-through-spec : {M : Type 1} → statement M
-search-through-spec =
+pub search-with-room-spec : {M : Type 1} → statement M
+search-with-room-spec =
     tie.close
     (tie.spec
     table-requires

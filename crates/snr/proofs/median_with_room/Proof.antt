@@ -1,4 +1,4 @@
--- `snr::median_through` meets its contract: the definition's own steps. Assumes nothing.
+-- `snr::median_with_room` meets its contract: the definition's own steps. Assumes nothing.
 use Prim.Native.Nat.{ℕ}
 use mathlib.Core.Path.{_≡_, ap, _∙_}
 use mathlib.Core.List.{List}
@@ -7,8 +7,8 @@ use Rattle.complex.specs.declared.Complex.{Complex}
 use Rattle.snr.specs.Error.{directionSum, phaseTurn}
 use Rattle.snr.specs.Median.{sortedErrors, middleOf, medianOf}
 use borrow.Author.Needs.{needs}
-use Rattle.snr.proofs.median_through.Statement.{statement}
-use Rattle.snr.proofs.median_through.Tie as tie
+use Rattle.snr.proofs.median_with_room.Statement.{statement}
+use Rattle.snr.proofs.median_with_room.Tie as tie
 
 whole : (p : ℕ → Complex) (a : List Float) (n : ℕ) (s t : Complex) (r : Float)
     → s ≡ directionSum p n → t ≡ phaseTurn s → a ≡ sortedErrors p t n → r ≡ middleOf a → r ≡ medianOf p n
@@ -33,8 +33,8 @@ same-length c = search needs
 returns : tie.Need-returns
 returns c = whole _ _ _ _ _ _ (c .before .before .before .before .before .before .before .direction-sum .ensures) (c .before .before .before .before .before .before .phase-turn .ensures) (c .before .before .before .before .sort-errors .ensures) (c .middle .ensures)
 
-pub median-through-spec : {M : Type 1} → statement M
-median-through-spec =
+pub median-with-room-spec : {M : Type 1} → statement M
+median-with-room-spec =
     tie.close
     (tie.spec
     direction-sum-requires

@@ -1,4 +1,4 @@
--- `search::block_through` meets its contract: the two sums at each position make its offer. Assumes nothing.
+-- `search::block_with_room` meets its contract: the two sums at each position make its offer. Assumes nothing.
 use Prim.Native.Nat.{ℕ, _-_}
 use mathlib.Core.Path.{ap, _∙_}
 use native.Mathlib.Omega.{arith}
@@ -8,8 +8,8 @@ use Rattle.search.specs.Flat.{flatMetric}
 use Rattle.search.specs.Block.{offeredAll}
 use Rattle.search.proofs.Laws.{rows-same, block-offers}
 use borrow.Author.Needs.{needs}
-use Rattle.search.proofs.block_through.Statement.{statement}
-use Rattle.search.proofs.block_through.Tie as tie
+use Rattle.search.proofs.block_with_room.Statement.{statement}
+use Rattle.search.proofs.block_with_room.Tie as tie
 
 sub-at : tie.Need-sub-at
 sub-at c = search needs
@@ -69,8 +69,8 @@ returns c =
     (c .before .before .before .before .before .counts-of .ensures) (c .before .before .before .before .before .before .before .before .before .before .before .before .before .before .before .before .before .before .before .before .before .before .before .before .before .before .before .dots .ensures) (c .before .before .before .before .before .before .before .before .before .before .before .before .before .before .dots2 .ensures)
     ∙ ap (offersFrom g (a .p)) (omega (arith, c .before .before .before .before .before .before .before .before .before .before .before .before .before .before .before .before .before .before .before .before .before .before .before .before .before .before .ar .given, c .before .before .before .before .before .before .before .before .before .before .before .before .before .before .before .before .before .before .before .before .before .before .before .before .ai .given, c .before .before .before .before .before .before .before .before .before .before .before .before .before .br .given, c .before .before .before .before .before .before .before .before .before .before .before .bi .given)))
 
-pub block-through-spec : {M : Type 1} → statement M
-block-through-spec =
+pub block-with-room-spec : {M : Type 1} → statement M
+block-with-room-spec =
     tie.close
     (tie.spec
     sub-at

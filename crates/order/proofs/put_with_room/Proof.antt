@@ -1,4 +1,4 @@
--- `order::put_through` meets its contract: the places, and then the soft bits of one order. Assumes nothing.
+-- `order::put_with_room` meets its contract: the places, and then the soft bits of one order. Assumes nothing.
 use Prim.Native.Nat.{ℕ}
 use mathlib.Core.Path.{_≡_, sym, ap, _∙_}
 use mathlib.Core.List.{List}
@@ -7,8 +7,8 @@ use Rattle.level.specs.declared.Layout.{Layout}
 use Rattle.order.specs.declared.Order.{Order}
 use Rattle.order.specs.SoftOrder.{inOrder}
 use borrow.Author.Needs.{needs}
-use Rattle.order.proofs.put_through.Statement.{statement}
-use Rattle.order.proofs.put_through.Tie as tie
+use Rattle.order.proofs.put_with_room.Statement.{statement}
+use Rattle.order.proofs.put_with_room.Tie as tie
 
 in-order : (l : Layout) (table : List ℕ) (soft out : List Float) (order o : Order) → order ≡ o → out ≡ inOrder o l table soft
     → out ≡ inOrder order l table soft
@@ -57,8 +57,8 @@ returns-2 c =
     let a = c .before .before .before .before .before .before .before .before .before .before .before .before .before .before .before .before .before .before .before .args in
     in-order (a .l) (a .markers .now) (a .soft .now) _ _ _ (c .before .before .before .before .before .enum-told2 .given .1) (c .before .before .scatter .ensures)
 
-pub put-through-spec : {M : Type 1} → statement M
-put-through-spec =
+pub put-with-room-spec : {M : Type 1} → statement M
+put-with-room-spec =
     tie.close
     (tie.spec
     walk-requires
