@@ -95,5 +95,6 @@ fn damage(layout: &Layout, random: &Random, count: &mut Count) {
     let met = call(bandwidth, record, &tables.markers, &soft, &mut out).err().map_or(0, Refusal::number);
     let kept = first == 0 || out.iter().map(|x| x.to_bits()).eq(before);
     count.refused(first);
-    count.compare("calls for an order", met == first && kept, || format!("order: {met}, expected {first}, kept {kept}"));
+    count
+        .compare("calls for an order", met == first && kept, || format!("order: {met}, expected {first}, kept {kept}"));
 }

@@ -19,7 +19,9 @@ pub fn soft(file: &Path, layout: &Layout, tables: &Tables, reading: &Reading) ->
         // The rest stands inside the picture that plotters has closed.
         svg.truncate(svg.trim_end().trim_end_matches("</svg>").len());
         let stretched = "preserveAspectRatio=\"none\" style=\"image-rendering:pixelated\"";
-        *svg += &format!("<image x=\"{x}\" y=\"{y}\" width=\"{w}\" height=\"{h}\" {stretched} href=\"{image}\"/>\n</svg>\n");
+        *svg += &format!(
+            "<image x=\"{x}\" y=\"{y}\" width=\"{w}\" height=\"{h}\" {stretched} href=\"{image}\"/>\n</svg>\n"
+        );
         Ok::<(), DrawingAreaErrorKind<std::io::Error>>(())
     })
 }
