@@ -169,8 +169,11 @@ fn own_marks_go_by_a_seed() {
     let folder = folder("seed");
     fs::write(folder.join("p.txt"), "01".repeat(374)).unwrap();
     typed(&folder, "send -l 500/4 p.txt -o seed.wav --marker-seed 5");
-    assert_eq!(typed(&folder, "receive seed.wav -l 500/4 --marker-seed 5").status.code(), Some(0));
-    assert_eq!(typed(&folder, "receive seed.wav -l 500/4").status.code(), Some(1));
+    typed(&folder, "receive seed.wav -l 500/4 --marker-seed 5 -o same.txt");
+    typed(&folder, "receive seed.wav -l 500/4 -o other.txt");
+    let read = |name: &str| fs::read_to_string(folder.join(name)).unwrap_or_default();
+    assert_eq!(read("same.txt").trim(), read("p.txt"));
+    assert_ne!(read("other.txt").trim(), read("p.txt"));
     assert_eq!(typed(&folder, "receive seed.wav -l 500/4 --marker-seed 16777216").status.code(), Some(4));
 }
 
