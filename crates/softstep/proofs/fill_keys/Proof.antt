@@ -42,9 +42,7 @@ loop-holds c =
     (omega arith, e, rw e (size-small _ (s .pre .1)), s .pre .3, s .pre .3, filled-none _ _)
 
 point-requires-2 : tie.Need-point-requires-2 Inv-loop μ-loop
-point-requires-2 c κs =
-    let s = c .before .before .before .before .before in
-    (s .pre .0, s .pre .1, rw (← (c .before .loop .inv .1)) (c .loop-test .taken))
+point-requires-2 c κs = search needs
 
 distance-requires : tie.Need-distance-requires Inv-loop μ-loop
 distance-requires c κs = search needs
