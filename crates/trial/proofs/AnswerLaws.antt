@@ -8,7 +8,7 @@ use native.Mathlib.Omega.{arith}
 use lib.Dec.{leb, eqb}
 use lib.ListN.{length, take, drop, length-drop, length-map}
 use lib.Seq.{take-all}
-use borrow.Author.Tests.{leb-true, ne-eqb, lt-ltb, le-ltb}
+use borrow.Author.Tests.{leb-true, ne-eqb}
 use Rattle.hold.specs.declared.Hold.{Hold}
 use Rattle.hold.specs.Offer.{freshHold}
 use Rattle.hold.specs.History.{Offer, Detection}
@@ -16,7 +16,7 @@ use Rattle.hold.specs.Releases.{releases}
 use Rattle.trial.specs.declared.Ran.the-variants.{BadOffers, Rows}
 use Rattle.trial.specs.Words.{words}
 use Rattle.trial.specs.Trial.{Token, token, numberIn, Trial, trialOf, offersIn, line, report, bad, answer, printed}
-use Rattle.trial.specs.Scan.{tokensIn}
+use Rattle.trial.specs.Scan.{tokensIn, ReadsTokens}
 use Rattle.trial.specs.Run.{trialWith, HeadIs, rowsOf, RunsOffers}
 use Rattle.trial.specs.Write.{rowLines, rowReport}
 
@@ -101,17 +101,14 @@ too-long (a ∷ b ∷ c ∷ d ∷ ts) h =
 
 -- ---- what is printed
 module _ (s : List ℕ) where
-  pub printed-long : 65536 < length s → bad ≡ printed s
+  pub printed-too-many : 2004 < length (words s) → bad ≡ printed s
   unfolding printed
-  printed-long h = rw (lt-ltb 65536 (length s) h)
+  printed-too-many m = answer-none _ (too-long (map token (words s)) (rw (length-map (words s) token) m))
 
-  module _ (h : length s ≤ 65536) where
-    printed-words : printed s ≡ answer (trialOf (map token (words s)))
-    unfolding printed
-    printed-words = rw (le-ltb 65536 (length s) h)
+  pub printed-tokens : (row : List ℕ) → tokensIn row ≡ map token (words s) → answer (trialOf (tokensIn row)) ≡ printed s
+  unfolding printed
+  printed-tokens row e = ap (λ (ts : List Token). answer (trialOf ts)) e
 
-    pub printed-too-many : 2004 < length (words s) → bad ≡ printed s
-    printed-too-many m = answer-none _ (too-long (map token (words s)) (rw (length-map (words s) token) m)) ∙ sym printed-words
-
-    pub printed-tokens : (row : List ℕ) → tokensIn row ≡ map token (words s) → answer (trialOf (tokensIn row)) ≡ printed s
-    printed-tokens row e = ap (λ (ts : List Token). answer (trialOf ts)) e ∙ sym printed-words
+pub printed-read : {text row : List ℕ} {n : ℕ} → ReadsTokens text row n → n ≤ length row
+    → answer (trialOf (tokensIn (take n row))) ≡ printed text
+printed-read {text} {row} {n} r h = printed-tokens text (take n row) (r .tokens h)

@@ -1,4 +1,6 @@
 pub mod ScanLaws
+pub mod BlockLaws
+pub mod Blocks
 pub mod RunLaws
 pub mod OffersLaws
 pub mod WriteLaws

@@ -1,7 +1,8 @@
 pub mod Words
 pub mod Numbers
 pub mod Trial
-pub mod Scan
-pub mod Run
 pub mod Write
+pub mod Scan
+pub mod Blocks
+pub mod Run
 pub mod Cases

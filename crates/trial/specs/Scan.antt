@@ -1,32 +1,15 @@
--- How the code reads the words of a text: places in it, and tokens as numbers of 64 bits. Definitions only.
+-- How the code reads the words of a text byte by byte, and tokens as numbers of 64 bits. Definitions only.
 use mathlib.Core.Path.{_≡_}
-use mathlib.Core.Bool.{true, false, cond}
-use mathlib.Core.List.{List, map}
-use Prim.Native.Nat.{ℕ, _+_, _-_, _*_, _≤_, _<_, _^_}
+use mathlib.Core.Bool.{Bool, true, false, cond, _&&_}
+use mathlib.Core.List.{List, [], _∷_, _++_, map}
+use Prim.Native.Nat.{ℕ, suc, _+_, _-_, _*_, _≤_, _<_, _^_}
 use lib.Dec.{leb, eqb}
-use lib.ListN.{length, getD, take, drop}
-use Rattle.trial.specs.declared.Words.{Words}
-use Rattle.trial.specs.declared.Words.the-variants.{TooMany, Count}
-use Rattle.trial.specs.Words.{separator, word, wordsFrom, words}
+use lib.ListN.{length, take, set}
+use Rattle.trial.specs.declared.Scan.{Scan}
+use Rattle.trial.specs.Words.{word, wordsFrom, words}
+use Rattle.trial.specs.Numbers.{digit}
 use Rattle.trial.specs.Trial.{Token, number, dash, other, token}
-
--- from `at` on, r is the first place with no separator, or the end
-pub record Skips (s : List ℕ) (at r : ℕ) : Type 0 where
-  pub from : at ≤ r
-  pub within : r ≤ length s
-  pub same : words (drop r s) ≡ words (drop at s)
-  pub stops : r < length s → separator (getD s r 0) ≡ false
-
--- the word that goes on at `at` ends at r
-pub record Ends (s : List ℕ) (at r : ℕ) : Type 0 where
-  pub from : at ≤ r
-  pub within : r ≤ length s
-  pub bytes : take (r - at) (drop at s) ≡ word (drop at s)
-  pub rest : wordsFrom true (drop at s) ≡ words (drop r s)
-
--- v with one more digit, held at 2^48 + 1 once above 2^48
-unfoldable pub afterDigit : ℕ → ℕ → ℕ
-afterDigit v b = cond (leb (v * 10 + (b - 48)) (2 ^ 48)) (v * 10 + (b - 48)) (2 ^ 48 + 1)
+use Rattle.trial.specs.Write.{Prints}
 
 -- the token that a number of 64 bits stands for
 unfoldable pub tokenIn : ℕ → Token
@@ -36,7 +19,52 @@ tokenIn n = cond (leb n (2 ^ 48)) (number n) (cond (eqb n (2 ^ 48 + 1)) dash oth
 abbrev pub tokensIn : List ℕ → List Token
 tokensIn row = map tokenIn row
 
--- the words of the text s are read into a row
-abbrev pub ReadsTokens : Words → List ℕ → List ℕ → Type 0
-ReadsTokens TooMany s row = length row < length (words s)
-ReadsTokens (Count n) s row = (n ≤ length row) × (tokensIn (take n row) ≡ map token (words s))
+-- the token of a word that has one byte so far
+unfoldable pub begun : ℕ → ℕ
+begun b = cond (eqb b 45) (2 ^ 48 + 1) (cond (digit b) (b - 48) (2 ^ 48 + 2))
+
+-- that of a word with one byte more: a number of at most 2^48 with a digit more, or none
+unfoldable pub grown : ℕ → ℕ → ℕ
+grown t b =
+    cond (leb t (2 ^ 48) && digit b) (cond (leb (t * 10 + (b - 48)) (2 ^ 48)) (t * 10 + (b - 48)) (2 ^ 48 + 2))
+    (2 ^ 48 + 2)
+
+-- what a word comes to that has the token t so far and goes on with the bytes w
+unfoldable pub tokenOn : ℕ → List ℕ → Token
+tokenOn t [] = tokenIn t
+tokenOn t (b ∷ w) = tokenOn (grown t b) w
+
+-- the tokens that a text brings where a word with the token t so far is unfinished, or none is
+unfoldable pub ahead : Bool → ℕ → List ℕ → List Token
+ahead false t u = map token (words u)
+ahead true t u = tokenOn t (word u) ∷ map token (wordsFrom true u)
+
+-- a text has been read, and how it goes on is open
+pub record Holds (text : List ℕ) (scan : Scan) (row : List ℕ) : Type 0 where
+  pub tokens : scan .count ≤ length row → (u : List ℕ)
+      → map token (words (text ++ u)) ≡ tokensIn (take (scan .count) row) ++ ahead (scan .inside) (scan .word) u
+  pub many : length row < scan .count → (u : List ℕ) → length row < length (words (text ++ u))
+
+-- a token put at place n of a row, which then goes on at r
+pub record Pushes (t : ℕ) (row : List ℕ) (n : ℕ) (row′ : List ℕ) (r : ℕ) : Type 0 where
+  pub room : n < length row → (row′ ≡ set row n t) × (r ≡ n + 1)
+  pub full : length row ≤ n → (row′ ≡ row) × (r ≡ length row + 1)
+
+-- the bytes s more of any text
+pub record Continues (s : List ℕ) (a : Scan) (row : List ℕ) (b : Scan) (row′ : List ℕ) : Type 0 where
+  pub long : length row′ ≡ length row
+  pub reads : (text : List ℕ) → Holds text a row → Holds (text ++ s) b row′
+
+-- the words of a text stand in a row, n of them, or are more than it holds
+pub record ReadsTokens (text row : List ℕ) (n : ℕ) : Type 0 where
+  pub tokens : n ≤ length row → tokensIn (take n row) ≡ map token (words text)
+  pub many : length row < n → length row < length (words text)
+
+pub record Finishes (scan : Scan) (row : List ℕ) (n : ℕ) (row′ : List ℕ) : Type 0 where
+  pub long : length row′ ≡ length row
+  pub reads : (text : List ℕ) → Holds text scan row → ReadsTokens text row′ n
+
+-- what is printed for whatever text was read into a row of 2,004
+pub record Answers (scan : Scan) (row before after : List ℕ) (r : ℕ) : Type 0 where
+  pub fits : r ≤ length after
+  pub prints : (text : List ℕ) → length row ≡ 2004 → Holds text scan row → Prints text before after r

@@ -3,7 +3,7 @@ use mathlib.Core.Bool.{Bool, false, cond, _&&_}
 use mathlib.Core.List.{List, [], _∷_, _++_, map, flatMap}
 use mathlib.Core.Option.{Option, none, some, Option·map, bind}
 use Prim.Native.Nat.{ℕ, _*_, _^_}
-use lib.Dec.{leb, ltb, eqb}
+use lib.Dec.{leb, eqb}
 use lib.ListN.{length}
 use lib.IntN.{pos}
 use lib.Ieee.{Float, binary64, ofInt, toUnsigned}
@@ -92,6 +92,6 @@ unfoldable pub answer : Option Trial → List ℕ
 answer none = bad
 answer (some t) = report (releases (freshHold (t .hold) (t .dead)) (t .offers))
 
--- a text above 65,536 bytes is read as none of the form
+-- of any length
 unfoldable pub printed : List ℕ → List ℕ
-printed text = cond (ltb 65536 (length text)) bad (answer (trialOf (map token (words text))))
+printed text = answer (trialOf (map token (words text)))

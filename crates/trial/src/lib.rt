@@ -1,15 +1,14 @@
 // A trial of the hold as text (01, "Beside the chain", `holdtrial`): the words of the input become tokens, the offers
 // run, and the releases are written.
 ghost use mathlib.Core.Path.{_≡_};
-ghost use mathlib.Core.Bool.{true, false};
-ghost use mathlib.Core.List.{[], _∷_};
-ghost use Prim.Native.Nat.{_+_, _*_, _≤_, _^_};
+ghost use mathlib.Core.List.{List, [], _∷_};
+ghost use Prim.Native.Nat.{ℕ, _+_, _*_, _≤_, _^_};
 ghost use lib.Dec.{leb};
 ghost use lib.ListN.{length};
 ghost use Rattle.trial.specs.Words.{separator};
 ghost use Rattle.trial.specs.Numbers.{digit, decimal};
-ghost use Rattle.trial.specs.Trial.{isDash, token, trialOf, bad, answer};
-ghost use Rattle.trial.specs.Scan.{Skips, Ends, afterDigit, tokenIn, tokensIn, ReadsTokens};
+ghost use Rattle.trial.specs.Trial.{trialOf, bad, answer};
+ghost use Rattle.trial.specs.Scan.{begun, grown, tokensIn, Holds, Pushes, Continues, Finishes, Answers};
 ghost use Rattle.trial.specs.Run.{ReadsHead, BringsCandidate, Small, Stores, Kept, RunsOffers};
 ghost use Rattle.hold.specs.OfferLaws.{OfRelease};
 ghost use Rattle.trial.specs.Write.{Writes, rowLine, rowLines, rowReport, Prints};
@@ -41,106 +40,113 @@ fn is_digit(b: u8) -> bool
     b <= b'9'
 }
 
-// The place of the first byte from `at` on that separates no words.
-fn skip_separators(s: &[u8], at: usize) -> usize
-    requires { ⌜ at ≤ length (now s) ⌝ }
-    ensures { λ r. ⌜ Skips (now (s .entry)) at r ⌝ }
+// The token of a word that has one byte so far.
+fn begun(b: u8) -> u64
+    ensures { λ r. ⌜ r ≡ begun b ⌝ }
 {
-    let mut i = at;
-    while i < s.len() {
-        if !is_separator(s[i]) {
-            return i;
-        }
-        i += 1;
+    if b == b'-' {
+        return DASH;
     }
-    i
+    if !is_digit(b) {
+        return OTHER;
+    }
+    (b - b'0') as u64
 }
 
-// The place where the word ends that goes on at `at`.
-fn word_end(s: &[u8], at: usize) -> usize
-    requires { ⌜ at ≤ length (now s) ⌝ }
-    ensures { λ r. ⌜ Ends (now (s .entry)) at r ⌝ }
+// The token of a word with one byte more.
+fn grown(t: u64, b: u8) -> u64
+    ensures { λ r. ⌜ r ≡ grown t b ⌝ }
 {
-    let mut i = at;
-    while i < s.len() {
-        if is_separator(s[i]) {
-            return i;
-        }
-        i += 1;
+    if 0x1_0000_0000_0000 < t {
+        return OTHER;
     }
-    i
-}
-
-fn is_dash(w: &[u8]) -> bool
-    ensures { λ r. ⌜ r ≡ isDash (now (w .entry)) ⌝ }
-{
-    if w.len() != 1 {
-        return false;
+    if !is_digit(b) {
+        return OTHER;
     }
-    w[0] == b'-'
-}
-
-// The number v with one more digit, or 2^48 + 1 where that is above 2^48.
-fn with_digit(v: u64, b: u8) -> u64
-    requires { ⌜ (v ≤ 2 ^ 48 + 1) × (digit b ≡ true) ⌝ }
-    ensures { λ r. ⌜ r ≡ afterDigit v b ⌝ }
-{
-    let n = v * 10 + (b - b'0') as u64;
+    let n = t * 10 + (b - b'0') as u64;
     if n <= 0x1_0000_0000_0000 {
         return n;
-    }
-    0x1_0000_0000_0001
-}
-
-fn number_token(w: &[u8]) -> u64
-    requires { ⌜ isDash (now w) ≡ false ⌝ }
-    ensures { λ r. ⌜ tokenIn r ≡ token (now (w .entry)) ⌝ }
-{
-    let mut v = 0;
-    for i in 0..w.len() {
-        let b = w[i];
-        if !is_digit(b) {
-            return OTHER;
-        }
-        v = with_digit(v, b);
-    }
-    if v <= 0x1_0000_0000_0000 {
-        return v;
     }
     OTHER
 }
 
-fn token_of(w: &[u8]) -> u64
-    ensures { λ r. ⌜ tokenIn r ≡ token (now (w .entry)) ⌝ }
+// What has been read of a text: how many words stand in a row as tokens, or one more than the row holds where it has
+// no room for them; whether the last byte leaves a word unfinished, and that word's token so far.
+pub struct Scan {
+    pub count: usize,
+    pub inside: bool,
+    pub word: u64,
+}
+
+// Before the first byte.
+pub fn start() -> Scan
+    ensures { λ r. ⌜ ((row : List ℕ) → Holds [] r row) ⌝ }
 {
-    if is_dash(w) {
-        return DASH;
+    Scan {
+        count: 0,
+        inside: false,
+        word: 0,
     }
-    number_token(w)
 }
 
-// How many tokens a text has, or that they are more than the row holds.
-enum Words {
-    TooMany,
-    Count(usize),
-}
-
-// Puts the token of each word into the row.
-fn read_tokens(s: &[u8], row: &mut [u64]) -> Words
-    ensures { λ r. ⌜ ReadsTokens r (now (s .entry)) (now (row .exit)) ⌝ }
+// Puts a token at place n of the row, and answers the next place, or one past the row's end where it has no room.
+fn push(t: u64, row: &mut [u64], n: usize) -> usize
+    ensures { λ r. ⌜ Pushes t (now (row .entry)) n (now (row .exit)) r ⌝ }
 {
-    let mut n = 0;
-    let mut i = skip_separators(s, 0);
-    while i < s.len() {
-        if row.len() <= n {
-            return Words::TooMany;
+    if n < row.len() {
+        row[n] = t;
+        return n + 1;
+    }
+    row.len() + 1
+}
+
+// One byte more of the text.
+fn scan_byte(b: u8, scan: Scan, row: &mut [u64]) -> Scan
+    ensures { λ r. ⌜ Continues (b ∷ []) scan (now (row .entry)) r (now (row .exit)) ⌝ }
+{
+    if is_separator(b) {
+        if !scan.inside {
+            return scan;
         }
-        let e = word_end(s, i + 1);
-        row[n] = token_of(&s[i..e]);
-        n += 1;
-        i = skip_separators(s, e);
+        return Scan {
+            count: push(scan.word, row, scan.count),
+            inside: false,
+            word: 0,
+        };
     }
-    Words::Count(n)
+    let word = if scan.inside {
+        grown(scan.word, b)
+    } else {
+        begun(b)
+    };
+    Scan {
+        count: scan.count,
+        inside: true,
+        word,
+    }
+}
+
+// A block more of the text.
+pub fn scan_block(s: &[u8], from: Scan, row: &mut [u64]) -> Scan
+    ensures { λ r. ⌜ Continues (now (s .entry)) from (now (row .entry)) r (now (row .exit)) ⌝ }
+{
+    let mut scan = from;
+    let mut i = 0;
+    while i < s.len() {
+        scan = scan_byte(s[i], scan, row);
+        i += 1;
+    }
+    scan
+}
+
+// The text's end: how many words it has, or one more than the row holds.
+fn finish(scan: Scan, row: &mut [u64]) -> usize
+    ensures { λ n. ⌜ Finishes scan (now (row .entry)) n (now (row .exit)) ⌝ }
+{
+    if scan.inside {
+        return push(scan.word, row, scan.count);
+    }
+    scan.count
 }
 
 // The head of a trial: its hold, its dead and its count of offers.
@@ -319,17 +325,23 @@ fn answer_tokens(tokens: &[u64], out: &mut [u8]) -> usize
     write_report(&row[..n], out)
 }
 
-// What `holdtrial` prints for an input: the text stands at the start of `out`, and the answer is its length.
+// What `holdtrial` prints for a text that has been read into a row of 2,004: it stands at the start of `out`, and the
+// answer is its length.
+pub fn answer_scan(scan: Scan, row: &mut [u64], out: &mut [u8; 65536]) -> usize
+    ensures { λ r. ⌜ Answers scan (now (row .entry)) (now (out .entry)) (now (out .exit)) r ⌝ }
+{
+    let n = finish(scan, row);
+    if row.len() < n {
+        return write_bad(out);
+    }
+    answer_tokens(&row[..n], out)
+}
+
+// The same for a text in one block.
 pub fn run(input: &[u8], out: &mut [u8; 65536]) -> usize
     ensures { λ r. ⌜ Prints (now (input .entry)) (now (out .entry)) (now (out .exit)) r ⌝ }
 {
-    if 65536 < input.len() {
-        return write_bad(out);
-    }
-    let mut tokens = [0u64; 2004];
-    let words = read_tokens(input, &mut tokens);
-    let Words::Count(n) = words else {
-        return write_bad(out);
-    };
-    answer_tokens(&tokens[..n], out)
+    let mut row = [0u64; 2004];
+    let scan = scan_block(input, start(), &mut row);
+    answer_scan(scan, &mut row, out)
 }

@@ -83,7 +83,7 @@ fn put_offers(input: &mut [u8], offers: usize)
     }
 }
 
-// An input of 65,537 bytes, or of 65,536, whose count has the digits given.
+// An input of 65,537 bytes, or of 65,536, whose count has the digits given: there is no limit to its length.
 fn show_many(thousands: u8, ones: u8, offers: usize, long: bool)
     requires { ⌜ offers ≤ 1001 ⌝ }
 {
@@ -103,7 +103,7 @@ fn show_many(thousands: u8, ones: u8, offers: usize, long: bool)
     }
 }
 
-// At most 1,000 offers, and at most 65,536 bytes.
+// At most 1,000 offers.
 fn limits() {
     show_many(b'1', b'0', 1000, false);
     show_many(b'1', b'0', 1000, true);
