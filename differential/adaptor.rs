@@ -180,6 +180,13 @@ pub fn alphabet(bps: usize) -> Vec<Complex64> {
     constellation(bps as u32).to_vec()
 }
 
+/// The nearest label and its squared distance, and every point's squared distance as the search rounds it.
+pub fn distances(bps: usize, step: Complex64) -> (usize, f64, Vec<f64>) {
+    let points = constellation(bps as u32);
+    let (label, distance) = demapper(points).nearest(step);
+    (label, distance, points.iter().map(|c| (step - c).norm_sqr()).collect())
+}
+
 /// The reference's hold.
 pub struct Holder(Hold<()>);
 

@@ -17,7 +17,7 @@
  *
  * The stack that a call needs, accepted or refused, in bytes:
  *    280,000  read                         2,000  modulate, nco_phase, open
- *    260,000  feed                         1,000  layout, offer, payload_bits, meter
+ *    260,000  feed                         1,000  layout, offer, payload_bits, meter, soft_step
  *     46,000  locate
  *      8,000  carrier_audio, residual
  * Measured on x86-64 Linux by `bench/run --stack` and rounded up: the most over all layouts of what a call changed
@@ -408,6 +408,17 @@ uint32_t dimpstea_soft_step(size_t size, double re, double im, double nvar,
  */
 uint32_t dimpstea_draw_markers(uint32_t bandwidth, uint32_t record, uint32_t *state, uint32_t limit,
                                uint16_t *out, size_t out_len);
+
+/*
+ * Conditions 31 32. Writes how clear the choice of a step's nearest point is, in an alphabet of `size` points (2, 4, 8, 16
+ * or 32):
+ *   *label       the label of the nearest point, the first of equals
+ *   *distance    its squared distance
+ *   *runner_up   the smallest squared distance among the other points: equal to *distance where two are as near, never
+ *                infinite
+ */
+uint32_t dimpstea_nearest_point(size_t size, double re, double im,
+                                uint64_t *label, double *distance, double *runner_up);
 
 #ifdef __cplusplus
 }

@@ -2,7 +2,7 @@
 //! word that isn't as it was painted is looked for. The wrapper in host/ that makes the call counts too.
 use crate::calls::{drift, released};
 use crate::inputs::{draws, layout, noise, payload, tables};
-use dimpstea::{flat, raw, rows, Complex, Hold, Layout, Refusal};
+use dimpstea::{flat, nearest_point, raw, rows, Complex, Hold, Layout, Refusal};
 use std::arch::asm;
 use std::collections::BTreeMap;
 use std::thread;
@@ -126,6 +126,8 @@ fn small(l: &Layout, record: u32, expected: Result<(), u32>, most: &mut Most) {
     for bits in 1..=5 {
         let step = Complex::new(0.3, -0.2);
         most.note("soft_step", Ok(()), &mut || raw::soft_step(1 << bits, step, 1.0, &mut [0.0; 5][..bits]));
+        most.note("nearest_point", Ok(()), &mut || nearest_point(1 << bits, step).map(drop));
+        most.note("nearest_point", Err(31), &mut || nearest_point(6, step).map(drop));
         most.note("soft_step", Err(33), &mut || raw::soft_step(1 << bits, step, 0.0, &mut [0.0; 5][..bits]));
     }
     let mut hold = Hold::new(8, 100);

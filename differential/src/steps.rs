@@ -1,8 +1,8 @@
 //! One step in an alphabet of 2, 4, 8, 16 or 32 points, beside the reference's demapper; and the call's refusals beside
 //! document 02's sentence.
-use crate::count::Count;
+use crate::count::{all_alike, Count};
 use crate::random::Random;
-use dimpstea::{erased, raw, soft_step, Complex};
+use dimpstea::{erased, nearest_point, raw, soft_step, Complex};
 use reference::{adaptor, Complex64};
 
 const LARGEST: f64 = 1048576.0;
@@ -16,6 +16,7 @@ pub fn run(cases: usize, random: &Random, count: &mut Count) {
         let step = step(&alphabets[bits - 1], random);
         let nvar = variance(random);
         compare(bits, step, nvar, count);
+        compare_nearest(bits, step, count);
     }
     for _ in 0..cases / 10 {
         damaged(random, count);
@@ -74,6 +75,21 @@ fn compare(bits: usize, step: Complex, nvar: f64, count: &mut Count) {
     });
 }
 
+/// "the smallest squared distance, as `nearest` rounds it, among the other points"
+fn compare_nearest(bits: usize, step: Complex, count: &mut Count) {
+    let nearest = nearest_point(1 << bits, step).expect("an accepted step");
+    let (label, distance, mut others) = adaptor::distances(bits, Complex64::new(step.re, step.im));
+    others.remove(label);
+    let runner_up = others.into_iter().fold(f64::INFINITY, f64::min);
+    let equal = nearest.label == label && all_alike(&[nearest.distance, nearest.runner_up], &[distance, runner_up]);
+    count.compare("nearest points with their runners-up", equal, || {
+        format!("{step:?} of {bits} bits: {nearest:?}, the reference has {label}, {distance:e}, {runner_up:e}")
+    });
+    if nearest.distance == nearest.runner_up {
+        count.note("runners-up as near as the nearest");
+    }
+}
+
 /// "31, before all else in this call, for a size other than 2, 4, 8, 16 or 32; then 11; then 32 for a step part not
 /// finite or above 2^20 in size; 33 for an nvar not finite or outside 0.001 to 2^60."
 fn expected(size: usize, step: Complex, nvar: f64, len: usize) -> u32 {
@@ -116,6 +132,11 @@ fn damaged(random: &Random, count: &mut Count) {
     let before: Vec<f64> = (0..len).map(|_| random.normal()).collect();
     let mut out = before.clone();
     let answer = raw::soft_step(size, step, nvar, &mut out).err().map_or(0, |refusal| refusal.number());
+    let search = nearest_point(size, step).err().map_or(0, |refusal| refusal.number());
+    let bits = size.trailing_zeros() as usize;
+    let wanted = expected(size, step, LEAST_VARIANCE, bits);
+    count.refused(wanted);
+    count.compare("refusals of a search", search == wanted, || format!("size {size}, {step:?}: {search}, not {wanted}"));
     let expected = expected(size, step, nvar, len);
     count.refused(expected);
     count.compare("refusals of one step", answer == expected, || {

@@ -22,3 +22,27 @@ pub fn soft_step(size: usize, step: Complex, nvar: f64) -> Result<Vec<f64>, Refu
 pub fn erased(soft: f64) -> bool {
     soft == 0.0
 }
+
+/// How clear the choice of a step's nearest point is.
+#[derive(Clone, Copy, Debug, PartialEq)]
+pub struct Nearest {
+    /// The label of the nearest point, the first of equals.
+    pub label: usize,
+    /// Its squared distance.
+    pub distance: f64,
+    /// The smallest squared distance among the other points; equal to `distance` at a tie, and never infinite.
+    pub runner_up: f64,
+}
+
+/// The nearest point of a step in an alphabet of `size` points (2, 4, 8, 16 or 32).
+///
+/// ```
+/// let nearest = dimpstea::nearest_point(2, dimpstea::Complex::new(0.5, 0.0))?;
+/// assert_eq!((nearest.label, nearest.distance, nearest.runner_up), (0, 0.25, 2.25));
+/// # Ok::<(), dimpstea::Refusal>(())
+/// ```
+pub fn nearest_point(size: usize, step: Complex) -> Result<Nearest, Refusal> {
+    let (mut label, mut distance, mut runner_up) = (0, 0.0, 0.0);
+    raw::nearest_point(size, step, &mut label, &mut distance, &mut runner_up)?;
+    Ok(Nearest { label: label as usize, distance, runner_up })
+}

@@ -186,4 +186,13 @@ extern "C" {
         out: *mut u16,
         out_len: usize,
     ) -> u32;
+
+    pub fn dimpstea_nearest_point(
+        size: usize,
+        re: f64,
+        im: f64,
+        label: *mut u64,
+        distance: *mut f64,
+        runner_up: *mut f64,
+    ) -> u32;
 }

@@ -45,7 +45,7 @@ mod soft_order;
 mod steps;
 mod tables;
 
-pub use alphabet::{erased, soft_step};
+pub use alphabet::{erased, nearest_point, soft_step, Nearest};
 pub use complex::{flat, flat_mut, Complex};
 pub use decibels::decibels;
 pub use hold::Hold;

@@ -398,3 +398,14 @@ pub fn residual(re: f64, im: f64) -> Result<(u32, i32), Refusal> {
 pub fn soft_step(size: usize, step: Complex, nvar: f64, out: &mut [f64]) -> Result<(), Refusal> {
     judged(unsafe { ffi::dimpstea_soft_step(size, step.re, step.im, nvar, out.as_mut_ptr(), out.len()) })
 }
+
+/// The nearest point of a step in an alphabet of `size` points, and the runner-up's distance: conditions 31 32.
+pub fn nearest_point(
+    size: usize,
+    step: Complex,
+    label: &mut u64,
+    distance: &mut f64,
+    runner_up: &mut f64,
+) -> Result<(), Refusal> {
+    judged(unsafe { ffi::dimpstea_nearest_point(size, step.re, step.im, label, distance, runner_up) })
+}

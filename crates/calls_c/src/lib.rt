@@ -3,7 +3,7 @@
 ghost use mathlib.Core.Path.{_≡_};
 ghost use Rattle.psk.specs.Symbols.{sending};
 ghost use Rattle.calls_c.specs.Calls.{ModulateCall, NcoPhaseCall, CarrierAudioCall, PayloadBitsCall, MeterCall};
-ghost use Rattle.calls_c.specs.Steps.{SoftStepCall};
+ghost use Rattle.calls_c.specs.Steps.{SoftStepCall, NearestPointCall};
 
 mod draw_markers;
 mod pilot_sum;
@@ -13,6 +13,7 @@ mod tenths;
 use complex::Complex;
 use meter::Metered;
 use refusal::Place;
+use runnerup::Searched;
 
 // The rows of all carriers.
 #[no_mangle]
@@ -134,4 +135,30 @@ pub extern "C" fn dimpstea_soft_step(
 {
     let z = Complex { re: re, im: im };
     refusal::code(softstep::soft_step(size, z, nvar, out))
+}
+
+// The nearest point of a step, its squared distance, and the least among the other points.
+#[no_mangle]
+pub extern "C" fn dimpstea_nearest_point(
+    size: usize,
+    re: f64,
+    im: f64,
+    label: &mut u64,
+    distance: &mut f64,
+    runner_up: &mut f64,
+) -> u32
+    ensures { λ r. ⌜ NearestPointCall size re im (now (label .entry)) (now (distance .entry)) (now («runner_up» .entry)) r
+        (now (label .exit)) (now (distance .exit)) (now («runner_up» .exit)) ⌝ }
+{
+    let z = Complex { re: re, im: im };
+    let searched = runnerup::nearest_point(size, z);
+    match searched {
+        Searched::Refused(r) => refusal::number(r),
+        Searched::Found(f) => {
+            *label = f.label as u64;
+            *distance = f.distance;
+            *runner_up = f.runner_up;
+            0
+        }
+    }
 }

@@ -16,20 +16,20 @@ use Rattle.refusal.specs.declared.Fault.the-variants.{Clear}
 use Rattle.refusal.specs.declared.Refusal.the-variants.{AlphabetSize, Buffer, StepSize, NoiseVariance}
 use Rattle.refusal.specs.Any.{any}
 use Rattle.refusal.specs.AnyLaws.{any-below}
-use Rattle.refusal.specs.Clear.{neither, clear-first}
+use Rattle.refusal.specs.Clear.{clear-first}
 use Rattle.complex.specs.declared.Complex.{Complex}
 use Rattle.constellation.specs.Alphabet.{alphabet}
-use Rattle.laws.specs.Tests.{inRange, inSize}
+use Rattle.laws.specs.Tests.{inRange}
 use Rattle.laws.specs.Floats.{Signed, Within}
 use Rattle.laws.specs.Order.{clash}
-use Rattle.laws.specs.Ranges.{in-size-within}
 use Rattle.laws.specs.Rounding.{zero-not-above}
 use Rattle.demap.specs.Nearest.{pointAt}
 use Rattle.demap.specs.SignLaw.{milli, Variance, PartsWithin, SignLaw}
 use Rattle.demap.specs.SoftLaws.{soft-sign}
 use Rattle.alphabets.specs.Alphabets.{bitsOf, points}
 use Rattle.alphabets.specs.AlphabetLaws.{points-within, bits-known}
-use Rattle.softstep.specs.Step.{largestPart, largestVariance, wrongStep, wrongVariance, stepFault}
+use Rattle.softstep.specs.Step.{largestVariance, wrongStep, wrongVariance, stepFault}
+use Rattle.softstep.specs.StepWithin.{not-false, step-within}
 use Rattle.softstep.specs.StepLaw.{gap, Apart, Separate, ZeroLaw, StepLaw, StepLaws}
 use Rattle.softstep.proofs.ZeroLaw.{zero-law}
 
@@ -78,18 +78,6 @@ separate w low high i j I J n =
     apart u v s t true true p q h = clash (sym h)
 
 -- ---- what no refusal says
-not-false : (b : Bool) → not b ≡ false → T b
-not-false true e = tt
-not-false false e = clash (sym e)
-
-step-within : (z : Complex) → wrongStep z ≡ false → PartsWithin z 20
-unfolding wrongStep ofBits
-step-within z h =
-    let p = neither (not (inSize largestPart (z .re))) (not (inSize largestPart (z .im))) h in (
-      in-size-within largestPart (z .re) 20 (lit≤ tt) (not-false (inSize largestPart (z .re)) (p .0)),
-      in-size-within largestPart (z .im) 20 (lit≤ tt) (not-false (inSize largestPart (z .im)) (p .1)),
-    )
-
 -- what is at least 0.001 has a clear sign
 above-milli : (x : Float) → T (le milli x) → Signed false x
 unfolding le ofBits

@@ -1,3 +1,4 @@
 pub mod Step
 pub mod StepLaw
 pub mod Four
+pub mod StepWithin

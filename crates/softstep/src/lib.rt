@@ -147,7 +147,7 @@ fn soft_bits(w: usize, z: Complex, nvar: f64, out: &mut [f64])
 }
 
 // 32: a part that is not finite or above 2^20 in size.
-fn wrong_step(z: Complex) -> bool
+pub fn wrong_step(z: Complex) -> bool
     ensures { λ r. ⌜ r ≡ wrongStep z ⌝ }
 {
     if !laws::in_size(z.re, 1048576.0) {

@@ -1,5 +1,5 @@
 //! One step in each alphabet.
-use dimpstea::{erased, raw, soft_step, Complex, Refusal};
+use dimpstea::{erased, nearest_point, raw, soft_step, Complex, Nearest, Refusal};
 
 fn number<T>(answer: Result<T, Refusal>) -> u32 {
     answer.err().map_or(0, Refusal::number)
@@ -52,4 +52,17 @@ fn sizes_and_ranges_31_11_32_33() {
         let soft = soft_step(16, Complex::new(-1048576.0, 1048576.0), nvar).unwrap();
         assert!(soft.len() == 4 && !soft.iter().any(|&s| erased(s)));
     }
+}
+
+#[test]
+fn a_tie_has_an_equal_runner_up() {
+    let tie = nearest_point(4, Complex::new(1.0, 1.0)).unwrap();
+    assert_eq!(tie, Nearest { label: 0, distance: 1.0, runner_up: 1.0 });
+    let point = nearest_point(16, Complex::new(-0.7778175, -0.7778175)).unwrap();
+    assert_eq!((point.label, point.distance), (0, 0.0));
+    assert!(point.runner_up > 0.268 && point.runner_up < 0.27);
+    let far = nearest_point(32, Complex::new(1048576.0, -1048576.0)).unwrap();
+    assert!(far.distance <= far.runner_up && far.runner_up.is_finite());
+    assert_eq!(number(nearest_point(6, Complex::new(f64::NAN, 0.0))), 31);
+    assert_eq!(number(nearest_point(8, Complex::new(f64::NAN, 0.0))), 32);
 }
