@@ -173,8 +173,11 @@ fn detections(record: u32, len: usize) -> String {
 /// feed_cases feeds one signal in three cuttings, whose detections are alike.
 fn cuttings() -> String {
     let len = 26_800;
-    let cutting = format!("{len} as told\n{}", detections(4, len));
-    format!("{}equal\n", cutting.repeat(3))
+    let found = detections(4, len);
+    let cuttings = ["feeds of 4,000 samples", "feeds of drawn lengths", "small feeds"];
+    let mut text: String = cuttings.iter().map(|name| format!("{name}\n{len} as told\n{found}")).collect();
+    text += "equal\n";
+    text
 }
 
 fn hex(x: f64) -> String {
