@@ -16,9 +16,10 @@
  * may run at once, as long as no two are lent the same state, memory or buffer for writing.
  *
  * The stack that a call needs, accepted or refused, in bytes:
- *    280,000  read                         2,000  modulate, nco_phase, open
- *    260,000  feed                         1,000  layout, offer, payload_bits, meter, soft_step,
- *     46,000  locate                              nearest_point
+ *    260,000  feed                         2,000  modulate, nco_phase, open, decibels
+ *     83,000  read                         1,000  layout, offer, payload_bits, meter, soft_step,
+ *     46,000  locate                              nearest_point, draw_markers
+ *     38,000  by_time, by_carrier
  *      8,000  carrier_audio, residual
  * Measured on x86-64 Linux by `bench/run --stack` and rounded up: the most over all layouts of what a call changed
  * of a painted stack, with its caller's frame. It is touched page by page, so that a guard page below it is met.

@@ -11,7 +11,7 @@ pub fn layout((bandwidth, record): (u32, u32)) -> Layout {
 }
 
 /// Numbers from 0 to 1 that look random, and are the same in every run (splitmix64).
-fn spread(i: usize) -> f64 {
+pub fn spread(i: usize) -> f64 {
     let z = (i as u64 + 1).wrapping_mul(0x9e37_79b9_7f4a_7c15);
     let z = (z ^ (z >> 30)).wrapping_mul(0xbf58_476d_1ce4_e5b9);
     let z = (z ^ (z >> 27)).wrapping_mul(0x94d0_49bb_1331_11eb);

@@ -3,6 +3,7 @@ mod calls;
 mod cpu;
 mod growth;
 mod inputs;
+mod later;
 mod picture;
 mod stack;
 
@@ -113,6 +114,7 @@ fn main() {
         [] => three(),
         ["--all"] => all(),
         ["--growth", picture] => growth::report(picture),
+        ["--later"] => later::report(),
         ["--stack"] => stack::report(),
         ["--count", side, word, bandwidth, record] => {
             count(side, word, (bandwidth.parse().unwrap(), record.parse().unwrap()));

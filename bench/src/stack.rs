@@ -123,6 +123,8 @@ fn small(l: &Layout, record: u32, expected: Result<(), u32>, most: &mut Most) {
     let (markers, mut timed) = (tables(l).markers, vec![0.0; l.payload]);
     most.note("by_time", expected, &mut || raw::by_time(l.bandwidth, record, &markers, &soft, &mut timed));
     most.note("by_carrier", expected, &mut || raw::by_carrier(l.bandwidth, record, &markers, &soft, &mut timed));
+    let mut drawn = vec![0; markers.len()];
+    most.note("draw_markers", expected, &mut || raw::draw_markers(l.bandwidth, record, &mut 5, 4096, &mut drawn));
     for bits in 1..=5 {
         let step = Complex::new(0.3, -0.2);
         most.note("soft_step", Ok(()), &mut || raw::soft_step(1 << bits, step, 1.0, &mut [0.0; 5][..bits]));
@@ -135,6 +137,8 @@ fn small(l: &Layout, record: u32, expected: Result<(), u32>, most: &mut Most) {
         most.note("offer", Ok(()), &mut || hold.offer(position, Some(25.0)).map(drop));
     }
     most.note("offer", Err(21), &mut || hold.offer(u64::MAX, None).map(drop));
+    most.note("decibels", Ok(()), &mut || raw::decibels(0.5, &mut 0));
+    most.note("decibels", Err(26), &mut || raw::decibels(3.0, &mut 0));
     most.note("residual", Ok(()), &mut || raw::residual(1.5, -2.5).map(drop));
     most.note("residual", Err(25), &mut || raw::residual(0.0, 0.0).map(drop));
 }
