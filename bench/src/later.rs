@@ -19,8 +19,7 @@ fn row<'a>(name: &str, of: &str, port: &'a mut (dyn FnMut() + 'a), reference: Op
     }
     let [port, reference] = times.map(|t| (!t.is_empty()).then(|| 1e9 * cpu::median(t) / CALLS as f64));
     let port = port.expect("the port's side");
-    let (rust, ratio) =
-        reference.map_or(("-".into(), "-".into()), |r| (format!("{r:.0}"), format!("{:.2}", port / r)));
+    let (rust, ratio) = reference.map_or(("-".into(), "-".into()), |r| (format!("{r:.0}"), format!("{:.2}", port / r)));
     println!("| {name} | {of} | {port:.0} | {rust} | {ratio} |");
 }
 

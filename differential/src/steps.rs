@@ -65,7 +65,11 @@ fn compare(bits: usize, step: Complex, nvar: f64, count: &mut Count) {
     let reference = adaptor::soft_bits(bits, &[Complex64::new(step.re, step.im)], nvar);
     count.compare_all("soft bits of one step", &soft, &reference, || format!("{step:?} of {bits} bits at {nvar:e}"));
     for &s in soft.iter().filter(|&&s| erased(s)) {
-        count.note(if s.is_sign_negative() { "soft bits of one step erased at -0" } else { "soft bits of one step erased at +0" });
+        count.note(if s.is_sign_negative() {
+            "soft bits of one step erased at -0"
+        } else {
+            "soft bits of one step erased at +0"
+        });
     }
     // "Where a soft bit isn't zero, its sign must agree with the nearest label for every alphabet"
     let label = adaptor::nearest(bits, Complex64::new(step.re, step.im));
@@ -105,7 +109,8 @@ fn expected(size: usize, step: Complex, nvar: f64, len: usize) -> u32 {
 
 fn damaged(random: &Random, count: &mut Count) {
     let bits = random.within(1, 5);
-    let size = if random.one_in(3) { random.pick(&[0, 1, 3, 5, 6, 7, 9, 12, 31, 33, 64, 256, usize::MAX]) } else { 1 << bits };
+    let size =
+        if random.one_in(3) { random.pick(&[0, 1, 3, 5, 6, 7, 9, 12, 31, 33, 64, 256, usize::MAX]) } else { 1 << bits };
     let len = if random.one_in(3) { random.below(8) } else { bits };
     let edge = |x: f64| {
         if random.one_in(4) {
@@ -136,11 +141,14 @@ fn damaged(random: &Random, count: &mut Count) {
     let bits = size.trailing_zeros() as usize;
     let wanted = expected(size, step, LEAST_VARIANCE, bits);
     count.refused(wanted);
-    count.compare("refusals of a search", search == wanted, || format!("size {size}, {step:?}: {search}, not {wanted}"));
+    count
+        .compare("refusals of a search", search == wanted, || format!("size {size}, {step:?}: {search}, not {wanted}"));
     let expected = expected(size, step, nvar, len);
     count.refused(expected);
     count.compare("refusals of one step", answer == expected, || {
         format!("size {size}, {step:?}, {nvar:e}, {len} places: {answer}, not {expected}")
     });
-    count.compare("buffers after refusals of one step", expected == 0 || out == before, || format!("size {size}: written"));
+    count.compare("buffers after refusals of one step", expected == 0 || out == before, || {
+        format!("size {size}: written")
+    });
 }

@@ -23,8 +23,5 @@ fn the_example_in_c_sends_and_receives() {
     fs::remove_file(&program).ok();
     let ran = ran.expect("the example runs");
     assert!(ran.status.success(), "{}", String::from_utf8_lossy(&ran.stderr));
-    assert_eq!(
-        String::from_utf8_lossy(&ran.stdout),
-        "detected at 956, read at 956, 0 of 748 payload bits differ\n"
-    );
+    assert_eq!(String::from_utf8_lossy(&ran.stdout), "detected at 956, read at 956, 0 of 748 payload bits differ\n");
 }
