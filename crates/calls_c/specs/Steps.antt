@@ -1,4 +1,4 @@
--- What the calls for C about one step answer, and what the buffers that they were lent hold afterwards. Definitions only.
+-- The calls for C about one step: what each answers, and what it leaves in what it was lent. Definitions only.
 use Prim.Native.Nat.{ℕ}
 use mathlib.Core.Path.{_≡_}
 use mathlib.Core.List.{List}

@@ -17,7 +17,8 @@ use Rattle.laws.specs.Plain.{le-cross}
 use Rattle.laws.specs.Size.{round-upper}
 use Rattle.laws.specs.Rounding.{round-zero}
 use Rattle.refusal.specs.Clear.{neither}
-use Rattle.decibels.specs.Decibels.{nought, two, milliard, formed, isFault}
+use Rattle.complex.specs.Arithmetic.{fzero}
+use Rattle.decibels.specs.Decibels.{two, milliard, formed, isFault}
 
 -- what a product has to be
 pub record Truncates (y : Float) : Type 0 where
@@ -48,7 +49,7 @@ two-milliard : HasValue (round binary64 false 2000000000 1) false 2000000000 1
 unfolding round
 two-milliard = (refl, refl)
 
-pub product-truncates : (median : Float) → T (inRange nought two median) → Truncates (mul binary64 median milliard)
+pub product-truncates : (median : Float) → T (inRange fzero two median) → Truncates (mul binary64 median milliard)
 unfolding inRange le mul ofBits
 product-truncates nan h = absurd h
 product-truncates (inf true) h = absurd h
@@ -57,14 +58,14 @@ product-truncates (fin true m e) h =
     let x = fin true m e in
     let a = 0 * down e in
     let b = m * up e * 1 in
-    let z : a ≡ b = eqb→eq a b (and-l (eqb a b) (eqb a 0) (and-l (le nought x) (le x two) h)) in
+    let z : a ≡ b = eqb→eq a b (and-l (eqb a b) (eqb a 0) (and-l (le fzero x) (le x two) h)) in
     let n : m * up e ≡ 0 = omega arith in
     let r : round binary64 true (m * up e * 1000000000) (down e * 1) ≡ fin true 0 (pos 0) =
     rw n (round-zero binary64 true (down e * 1) (mul-pos (down-pos e) (zero-lt-suc 0))) in
     rw r zero-truncates
 product-truncates (fin false m e) h =
     let x = fin false m e in
-    let l : m * up e * 1 ≤ 2 * down e = le-cross x two tt tt (and-r (le nought x) (le x two) h) in
+    let l : m * up e * 1 ≤ 2 * down e = le-cross x two tt tt (and-r (le fzero x) (le x two) h) in
     let r =
     round-upper binary64 (m * up e * 1000000000) (down e * 1) 2000000000 1 (mul-pos (down-pos e) (zero-lt-suc 0))
     (zero-lt-suc 0) two-milliard (omega arith) in
@@ -73,14 +74,14 @@ product-truncates (fin false m e) h =
 
 -- an accepted median: it is in the range, and its M is not 0
 pub record Accepted (median : Float) : Type 0 where
-  pub in-range : T (inRange nought two median)
+  pub in-range : T (inRange fzero two median)
   pub not-zero : 0 < formed median
   pub small : formed median ≤ 2000000000
 
 pub accepted : (median : Float) → isFault median ≡ false → Accepted median
 unfolding isFault formed
 accepted median h =
-    let n = neither (not (inRange nought two median)) (eqb (formed median) 0) h in
-    let r : T (inRange nought two median) = rw (not-false (inRange nought two median) (n .0)) tt in
+    let n = neither (not (inRange fzero two median)) (eqb (formed median) 0) h in
+    let r : T (inRange fzero two median) = rw (not-false (inRange fzero two median) (n .0)) tt in
     let z : formed median ≡ 0 → ⊥ = eqb-false (formed median) 0 (n .1) in
     record { in-range = r; not-zero = omega arith; small = product-truncates median r .small }

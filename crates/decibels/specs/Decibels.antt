@@ -7,14 +7,12 @@ use lib.Ieee.{Float, binary64, ofBits, mul, toUnsigned}
 use Rattle.refusal.specs.declared.Refusal.the-variants.{Median}
 use Rattle.refusal.specs.Refusal.{numberOf}
 use Rattle.refusal.specs.Outcome.{Outcome, refused, answered, firstFault, judged}
+use Rattle.complex.specs.Arithmetic.{fzero}
 use Rattle.laws.specs.Tests.{inRange}
 use Rattle.decibels.specs.declared.Tenths.{Tenths}
 use Rattle.decibels.specs.declared.Tenths.the-variants.{Count, Refused}
 
--- 0, 2 and 10^9
-abbrev pub nought : Float
-nought = ofBits binary64 0
-
+-- 2 and 10^9
 abbrev pub two : Float
 two = ofBits binary64 0x4000_0000_0000_0000
 
@@ -27,7 +25,7 @@ formed median = toUnsigned 64 (mul binary64 median milliard)
 
 -- "when the median isn't from 0 to 2 or M is 0"
 unfoldable pub isFault : Float → Bool
-isFault median = not (inRange nought two median) || eqb (formed median) 0
+isFault median = not (inRange fzero two median) || eqb (formed median) 0
 
 -- the greatest whole number up to n that passes a test; 0 where none does
 unfoldable pub greatestTo : (ℕ → Bool) → ℕ → ℕ

@@ -111,7 +111,8 @@ soft-fits w points b z r s =
 
 module _ (w k : ℕ) (points : List Complex) (W : PointsWithin w k points) where
   -- the nearest point is the first of the least distances
-  pub nearest-is : (z : Complex) → PartsWithin z k → First (λ j. distSqr z (pointAt points j)) (2 ^ w) (nearest points z)
+  pub nearest-is : (z : Complex) → PartsWithin z k
+      → First (λ j. distSqr z (pointAt points j)) (2 ^ w) (nearest points z)
   unfolding nearest
   nearest-is z p = rw (W .count) (nearest-first (λ j. distSqr z (pointAt points j)) (2 ^ w) (pow-pos w)
       (λ j l. dist-plain z (pointAt points j) k (W .room) p (W .near j l)))

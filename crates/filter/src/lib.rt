@@ -69,7 +69,7 @@ pub fn fir_at(v: &[f64], taps: &[f64], count: usize, i: usize) -> Complex
 }
 
 // The sum with one term more: the number at place `at` of v, times its tap.
-fn weigh(sum: Complex, v: &[f64], at: usize, tap: f64) -> Complex
+pub fn weigh(sum: Complex, v: &[f64], at: usize, tap: f64) -> Complex
     requires { ⌜ 2 * at + 1 < length (now v) ⌝ }
     ensures { λ r. ⌜ r ≡ cadd sum (cscale (cget (now (v .entry)) at) tap) ⌝ }
 {

@@ -17,7 +17,8 @@ directionSum p n = sumTo (λ k. directionOf (p k)) n
 
 -- "the turn `from_polar(1, -arg s)` is conj(s) / norm(s), or 1 where the norm is 0"
 unfoldable pub phaseTurn : Complex → Complex
-phaseTurn s = cond (eq (normOf s) fzero) (cx (ofBits binary64 0x3ff0_0000_0000_0000) fzero) (cunscale (cconj s) (normOf s))
+phaseTurn s =
+    cond (eq (normOf s) fzero) (cx (ofBits binary64 0x3ff0_0000_0000_0000) fzero) (cunscale (cconj s) (normOf s))
 
 -- |x|: the sign cleared
 unfoldable pub sizeOf : Float → Float

@@ -138,14 +138,6 @@ fn turn_part(
     turn_across(l, memory, samples, drift, at, first, count, v);
 }
 
-// The sum with one term more: the number at place `at` of v, times its tap.
-fn weigh(sum: Complex, v: &[f64], at: usize, tap: f64) -> Complex
-    requires { ⌜ 2 * at + 1 < length (now v) ⌝ }
-    ensures { λ r. ⌜ r ≡ cadd sum (cscale (cget (now (v .entry)) at) tap) ⌝ }
-{
-    complex::add(sum, complex::scale(complex::get(v, at), tap))
-}
-
 // The sums of four symbols, the first from place i of v on, in one loop: none waits for another's additions.
 fn four_sums(v: &[f64], taps: &[f64], count: usize, i: usize) -> Four
     requires { ⌜ (2 * (i + 96 + count) ≤ length (now v)) × (count ≤ length (now taps)) ⌝ }
@@ -158,10 +150,10 @@ fn four_sums(v: &[f64], taps: &[f64], count: usize, i: usize) -> Four
     let mut k = 0;
     while k < count {
         let tap = taps[k];
-        first = weigh(first, v, i + k, tap);
-        second = weigh(second, v, i + 32 + k, tap);
-        third = weigh(third, v, i + 64 + k, tap);
-        fourth = weigh(fourth, v, i + 96 + k, tap);
+        first = filter::weigh(first, v, i + k, tap);
+        second = filter::weigh(second, v, i + 32 + k, tap);
+        third = filter::weigh(third, v, i + 64 + k, tap);
+        fourth = filter::weigh(fourth, v, i + 96 + k, tap);
         k += 1;
     }
     Four {

@@ -9,19 +9,20 @@ use lib.Dec.{T}
 use lib.Ieee.{Float, binary64, mul, toUnsigned}
 use Rattle.refusal.specs.Outcome.{refused, answered}
 use Rattle.laws.specs.Tests.{inRange}
-use Rattle.decibels.specs.Decibels.{nought, two, milliard, formed, isFault, tenthsOf, decibels}
+use Rattle.complex.specs.Arithmetic.{fzero}
+use Rattle.decibels.specs.Decibels.{two, milliard, formed, isFault, tenthsOf, decibels}
 use Rattle.decibels.proofs.Formed.{product-truncates}
 use Rattle.decibels.proofs.ToATenth.{answers, refuses}
 use Rattle.decibels.proofs.decibels.Statement.{statement}
 use Rattle.decibels.proofs.decibels.Tie as tie
 
 -- the test's answer, and M
-module _ (median : Float) (b : Bool) (e : b ≡ inRange nought two median) where
+module _ (median : Float) (b : Bool) (e : b ≡ inRange fzero two median) where
   outside : b ≡ false → refused 26 ≡ decibels median
   unfolding isFault
   outside h = sym (refuses median (rw (sym e ∙ h) refl))
 
-  inside : b ≡ true → T (inRange nought two median)
+  inside : b ≡ true → T (inRange fzero two median)
   inside h = rw (sym e ∙ h) tt
 
   module _ (h : b ≡ true) (m : ℕ) (d : m ≡ toUnsigned 64 (mul binary64 median milliard)) where
