@@ -25,8 +25,9 @@ use Rattle.hold.specs.History.{Detection}
 use Rattle.state.specs.declared.State.{State}
 use Rattle.rx.specs.Receiver.{Feed, fed}
 use Rattle.rx.specs.View.{view}
-use Rattle.state.specs.Conditions.{spanEnd, otherLayout, wrongBook, wrongState, wrongSamples, wrongNumber, wrongParts}
-use Rattle.state.specs.Faults.{sampleFault}
+use Rattle.state.specs.Conditions.{spanEnd, otherLayout, wrongState}
+use Rattle.feed_fault.specs.Conditions.{wrongBook, wrongSamples, wrongNumber, wrongParts}
+use Rattle.feed_fault.specs.Faults.{sampleFault}
 use Rattle.rx.specs.Feed.{Given, feedFault, feedOf, feedOutcome}
 use Rattle.rx.specs.Sound.{equal-of, Sound, not-wrong}
 use Rattle.modem.specs.Ideal.{otherCall, inputFault, judgement}

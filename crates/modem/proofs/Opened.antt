@@ -21,8 +21,8 @@ use Rattle.hold.specs.History.{History, Detection}
 use Rattle.state.specs.declared.State.{State}
 use Rattle.rx.specs.declared.FeedAnswer.{FeedAnswer}
 use Rattle.rx.specs.Feed.{Given}
-use Rattle.state.specs.Conditions.{wrongStart}
-use Rattle.state.specs.Faults.{startFault, openFault}
+use Rattle.feed_fault.specs.Conditions.{wrongStart}
+use Rattle.feed_fault.specs.Faults.{startFault, openFault}
 use Rattle.rx.specs.Open.{openedState, openOutcome}
 use Rattle.modem.specs.Ideal.{accepted, offersOf}
 use Rattle.modem.specs.Calls.{Calls, detections}

@@ -18,7 +18,8 @@ use Rattle.rx.specs.declared.FeedAnswer.{FeedAnswer}
 use Rattle.rx.specs.Receiver.{Receiver, Feed}
 use Rattle.rx.specs.View.{view}
 use Rattle.rx.specs.Open.{openedState}
-use Rattle.state.specs.Conditions.{spanEnd, wrongBook, wrongState}
+use Rattle.state.specs.Conditions.{spanEnd, wrongState}
+use Rattle.feed_fault.specs.Conditions.{wrongBook}
 use Rattle.rx.specs.Feed.{Given}
 use Rattle.modem.specs.Ideal.{accepted, verdicts, joined, sampleRow, broughtBy, receiverOf, offersOf}
 use Rattle.modem.specs.Calls.{detections, answersOf}

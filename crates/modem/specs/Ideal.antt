@@ -24,7 +24,8 @@ use Rattle.hold.specs.History.{Offer}
 use Rattle.search.specs.Chi.{chiAt}
 use Rattle.search.specs.Search.{evenUp, reach, searchCount, offersFrom}
 use Rattle.state.specs.declared.SearchPlace.{SearchPlace}
-use Rattle.state.specs.Conditions.{otherNumbers, wrongBook, wrongSamples, wrongNumber, wrongParts}
+use Rattle.state.specs.Conditions.{otherNumbers}
+use Rattle.feed_fault.specs.Conditions.{wrongBook, wrongSamples, wrongNumber, wrongParts}
 use Rattle.rx.specs.Receiver.{Carrier, Receiver, Feed}
 use Rattle.rx.specs.Feed.{Given, feedOf}
 

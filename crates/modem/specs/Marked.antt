@@ -25,7 +25,7 @@ use Rattle.hold.specs.declared.Candidate.{Candidate}
 use Rattle.hold.specs.declared.Hold.{Hold}
 use Rattle.hold.specs.declared.Release.the-variants.{NoRelease, Released}
 use Rattle.hold.specs.Offer.{offered}
-use Rattle.state.specs.Conditions.{tooMany}
+use Rattle.feed_fault.specs.Conditions.{tooMany}
 
 -- a number of the layout that a bandwidth and a record choose
 abbrev pub numberIn : (Layout → ℕ) → ℕ → ℕ → Outcome ℕ

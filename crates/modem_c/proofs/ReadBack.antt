@@ -28,7 +28,7 @@ use Rattle.hold.specs.LoneOffer.{loneFault, outcome, unlessMet, LoneOffers}
 use Rattle.state.specs.declared.State.{State}
 use Rattle.rx.specs.declared.FeedAnswer.{FeedAnswer}
 use Rattle.rx.specs.declared.FeedAnswer.the-variants.{Accepted, Refused}
-use Rattle.state.specs.Faults.{startFault}
+use Rattle.feed_fault.specs.Faults.{startFault}
 use Rattle.rx.specs.Open.{openedState}
 use Rattle.rx.specs.Feed.{Left}
 use Rattle.modem_c.specs.Numbers.{narrow, position, holdAt, stateAt, stateOf}

@@ -24,7 +24,7 @@ use Rattle.hold.specs.LoneOffer.{outcome, LoneOffers}
 use Rattle.state.specs.declared.State.{State}
 use Rattle.rx.specs.declared.FeedAnswer.{FeedAnswer}
 use Rattle.rx.specs.declared.FeedAnswer.the-variants as feed
-use Rattle.state.specs.Faults.{startFault}
+use Rattle.feed_fault.specs.Faults.{startFault}
 use Rattle.rx.specs.Open.{openedState}
 use Rattle.rx.specs.Feed.{Given, FedBy}
 use Rattle.modem_c.specs.Numbers.{layoutNumbers, stateOf, numbersOf, metricOf, holdAt, holdNumbers, heldMetric}

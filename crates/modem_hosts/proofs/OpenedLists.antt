@@ -18,8 +18,8 @@ use Rattle.dat.specs.Tables.{tableFault}
 use Rattle.state.specs.declared.State.{State}
 use Rattle.rx.specs.declared.FeedAnswer.{FeedAnswer}
 use Rattle.rx.specs.declared.FeedAnswer.the-variants.{Accepted, Refused}
-use Rattle.state.specs.Conditions.{wrongBook}
-use Rattle.state.specs.Faults.{startFault, openFault}
+use Rattle.feed_fault.specs.Conditions.{wrongBook}
+use Rattle.feed_fault.specs.Faults.{startFault, openFault}
 use Rattle.rx.specs.Open.{openedState, openOutcome}
 use Rattle.rx.specs.Feed.{Given}
 use Rattle.modem.specs.Follows.{OpenedAs, wrongMemoryVerdict}

@@ -28,7 +28,8 @@ use Rattle.symbols.specs.Symbols.{driftLength}
 use Rattle.symbols.specs.Standing.{SymbolsFit}
 use Rattle.locate.specs.Fits.{LocateFits}
 use Rattle.state.specs.declared.State.{State}
-use Rattle.state.specs.Conditions.{spanEnd, one, wrongState}
+use Rattle.state.specs.Conditions.{spanEnd, wrongState}
+use Rattle.feed_fault.specs.Conditions.{one}
 use Rattle.rx.specs.Sound.{Sound, sound}
 use Rattle.reading.specs.Conditions.{wrongBuffers, framePast, samplesPast, notInHand, wrongDrift}
 use Rattle.reading.specs.Read.{Asked, tablesOf, placeFault, locateFault, frameFault, readFault}

@@ -12,7 +12,8 @@ use Rattle.level.specs.declared.Layout.{Layout}
 use Rattle.search.specs.Search.{reach}
 use Rattle.symbols.specs.Symbols.{driftLength}
 use Rattle.state.specs.declared.State.{State}
-use Rattle.state.specs.Conditions.{spanEnd, one}
+use Rattle.state.specs.Conditions.{spanEnd}
+use Rattle.feed_fault.specs.Conditions.{one}
 
 -- 11: "an out or scratch buffer of wrong length": nc × nsym complex numbers, and n soft bits
 unfoldable pub wrongBuffers : Layout → ℕ → ℕ → Bool

@@ -7,7 +7,7 @@ ghost use Rattle.refusal.specs.Any.{any};
 ghost use Rattle.laws.specs.Tests.{inRange};
 ghost use Rattle.level.specs.Sized.{Sized};
 ghost use Rattle.state.specs.Near.{Near};
-ghost use Rattle.state.specs.Conditions.{one};
+ghost use Rattle.feed_fault.specs.Conditions.{one};
 ghost use Rattle.reading.specs.Conditions.{wrongBuffers, framePast, samplesPast};
 ghost use Rattle.reading.specs.Conditions.{notInHand, wrongDrift, wrongGain};
 use level::Layout;

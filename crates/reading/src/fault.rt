@@ -16,7 +16,7 @@ fn place_fault(l: Layout, s: State, room: usize, t0: Position) -> Fault
     requires { ⌜ IsLayout l ⌝ }
     ensures { λ r. ⌜ r ≡ placeFault l s room (t0 .0) ⌝ }
 {
-    if state::conditions::wrong_state(l, room, s) {
+    if state_fault::wrong_state(l, room, s) {
         return Fault::Met(Refusal::State);
     }
     if conditions::frame_past(l, s, t0.0) {
@@ -61,7 +61,7 @@ fn frame_fault(
     if conditions::wrong_buffers(l, scratch, out) {
         return Fault::Met(Refusal::Buffer);
     }
-    if state::conditions::wrong_state(l, room, s) {
+    if state_fault::wrong_state(l, room, s) {
         return Fault::Met(Refusal::State);
     }
     if conditions::not_in_hand(l, s, t0.0, drift) {

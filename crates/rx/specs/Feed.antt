@@ -17,7 +17,7 @@ use Rattle.state.specs.declared.State.{State}
 use Rattle.rx.specs.declared.FeedAnswer.{FeedAnswer}
 use Rattle.rx.specs.declared.FeedAnswer.the-variants.{Accepted, Refused}
 use Rattle.rx.specs.Receiver.{Feed, fed}
-use Rattle.state.specs.Faults.{sampleFault}
+use Rattle.feed_fault.specs.Faults.{sampleFault}
 use Rattle.rx.specs.View.{view}
 
 -- what a feed is given beside state and memory

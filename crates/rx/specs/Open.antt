@@ -12,7 +12,7 @@ use Rattle.state.specs.declared.SearchPlace.the-variants.{Fresh}
 use Rattle.state.specs.declared.State.{State}
 use Rattle.rx.specs.declared.OpenAnswer.{OpenAnswer}
 use Rattle.rx.specs.declared.OpenAnswer.the-variants.{Opened, Refused}
-use Rattle.state.specs.Faults.{openFault}
+use Rattle.feed_fault.specs.Faults.{openFault}
 
 -- no values, from position p on
 abbrev pub emptySpan : ℕ → Span

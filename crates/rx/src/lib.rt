@@ -20,7 +20,6 @@ use refusal::Position;
 use refusal::Refusal;
 pub use state::SearchPlace;
 pub use state::State;
-use state::fault;
 use state::places;
 use track::Span;
 
@@ -84,7 +83,7 @@ pub fn open(
     match chosen {
         Chosen::Refused(r) => OpenAnswer::Refused(r),
         Chosen::Psk(l) => {
-            let fault = fault::open_fault(l, markers, phasors, start, book);
+            let fault = feed_fault::open_fault(l, markers, phasors, start, book);
             match fault {
                 Fault::Met(r) => OpenAnswer::Refused(r),
                 Fault::Clear => OpenAnswer::Opened(opened(l, start)),
@@ -240,7 +239,7 @@ pub fn feed(
             answer: FeedAnswer::Refused(r),
         },
         Chosen::Psk(l) => {
-            let fault = fault::feed_fault(
+            let fault = feed_fault::feed_fault(
                 l,
                 markers,
                 phasors,

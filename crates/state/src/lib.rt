@@ -1,6 +1,5 @@
-// A receiver's state, and the conditions that an opening and a feed meet (01, "Where each fault is met", 15 to 20).
-pub mod conditions;
-pub mod fault;
+// A receiver's state: its places, and how its numbers stand to each other.
+pub mod numbers;
 pub mod places;
 
 use hold::Hold;

@@ -26,8 +26,9 @@ use Rattle.rx.specs.declared.FeedResult.{FeedResult}
 use Rattle.rx.specs.declared.FeedAnswer.the-variants.{Accepted, Refused}
 use Rattle.rx.specs.Receiver.{fed}
 use Rattle.rx.specs.View.{view}
-use Rattle.state.specs.Conditions.{wrongBook, wrongState}
-use Rattle.state.specs.Faults.{sampleFault}
+use Rattle.state.specs.Conditions.{wrongState}
+use Rattle.feed_fault.specs.Conditions.{wrongBook}
+use Rattle.feed_fault.specs.Faults.{sampleFault}
 use Rattle.rx.specs.Feed.{Given, feedFault, feedOf, feedOutcome, outcome, FedBy}
 use Rattle.rx.specs.Sound.{sound}
 use Rattle.modem_c.specs.Numbers.{stateAt, stateOf, numbersOf, metricOf}

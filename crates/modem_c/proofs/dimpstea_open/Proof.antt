@@ -21,8 +21,8 @@ use Rattle.dat.specs.Tables.{wrongLength, wrongValue, wrongFlag, wrongCount, wr
 use Rattle.state.specs.declared.State.{State}
 use Rattle.rx.specs.declared.OpenAnswer.{OpenAnswer}
 use Rattle.rx.specs.declared.OpenAnswer.the-variants.{Opened, Refused}
-use Rattle.state.specs.Conditions.{wrongStart, wrongBook}
-use Rattle.state.specs.Faults.{startFault, openFault}
+use Rattle.feed_fault.specs.Conditions.{wrongStart, wrongBook}
+use Rattle.feed_fault.specs.Faults.{startFault, openFault}
 use Rattle.rx.specs.Open.{openedState, openOutcome, outcome}
 use Rattle.modem_c.specs.Numbers.{numbersOf, metricOf}
 use Rattle.modem_c.specs.Calls.{openedInto, OpenCall}

@@ -27,8 +27,9 @@ use Rattle.state.specs.declared.State.{State}
 use Rattle.rx.specs.declared.FeedAnswer.the-variants.{Refused}
 use Rattle.rx.specs.Receiver.{fed}
 use Rattle.rx.specs.View.{view}
-use Rattle.state.specs.Conditions.{wrongBook, wrongState, tooMany, wrongSamples}
-use Rattle.state.specs.Faults.{sampleFault}
+use Rattle.state.specs.Conditions.{wrongState}
+use Rattle.feed_fault.specs.Conditions.{wrongBook, tooMany, wrongSamples}
+use Rattle.feed_fault.specs.Faults.{sampleFault}
 use Rattle.rx.specs.Feed.{Given, given, feedFault, feedOf, feedOutcome, FedBy}
 use Rattle.rx.specs.Sound.{sound}
 use Rattle.rx.specs.Ready.{Ready}

@@ -19,8 +19,8 @@ use Rattle.level.specs.RowLaws.{is-layout}
 use Rattle.level.specs.SizedLaws.{sized}
 use Rattle.dat.specs.Tables.{tableFault}
 use Rattle.state.specs.declared.State.{State}
-use Rattle.state.specs.Conditions.{wrongStart}
-use Rattle.state.specs.Faults.{startFault, openFault}
+use Rattle.feed_fault.specs.Conditions.{wrongStart}
+use Rattle.feed_fault.specs.Faults.{startFault, openFault}
 use Rattle.rx.specs.Open.{openedState, openOutcome}
 use Rattle.rx.proofs.open.Statement.{statement}
 use Rattle.rx.proofs.open.Tie as tie

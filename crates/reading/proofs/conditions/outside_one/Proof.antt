@@ -9,7 +9,7 @@ use lib.Ieee.{nan, neg}
 use Rattle.refusal.specs.Any.{any}
 use Rattle.refusal.specs.AnyLaws.{any-none, any-at}
 use Rattle.laws.specs.Tests.{inRange}
-use Rattle.state.specs.Conditions.{one}
+use Rattle.feed_fault.specs.Conditions.{one}
 use borrow.Author.Needs.{needs}
 use native.Mathlib.Omega.{arith}
 use Rattle.reading.proofs.conditions.outside_one.Statement.{statement}

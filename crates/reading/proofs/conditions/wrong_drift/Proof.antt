@@ -12,7 +12,7 @@ use Rattle.laws.specs.Tests.{inRange}
 use Rattle.level.specs.declared.Layout.{Layout}
 use Rattle.level.specs.Sized.{Sized}
 use Rattle.symbols.specs.Symbols.{driftLength}
-use Rattle.state.specs.Conditions.{one}
+use Rattle.feed_fault.specs.Conditions.{one}
 use Rattle.reading.specs.Conditions.{wrongDrift}
 use native.Mathlib.Omega.{arith}
 use borrow.Author.Needs.{needs}
