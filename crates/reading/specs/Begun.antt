@@ -31,8 +31,9 @@ use Rattle.state.specs.declared.State.{State}
 use Rattle.state.specs.Conditions.{spanEnd, wrongState}
 use Rattle.feed_fault.specs.Conditions.{one}
 use Rattle.rx.specs.Sound.{Sound, sound}
-use Rattle.reading.specs.Conditions.{wrongBuffers, framePast, samplesPast, notInHand, wrongDrift}
-use Rattle.reading.specs.Read.{Asked, tablesOf, placeFault, locateFault, frameFault, readFault}
+use Rattle.read_fault.specs.Conditions.{wrongBuffers, framePast, samplesPast, notInHand, wrongDrift}
+use Rattle.read_fault.specs.Faults.{placeFault, frameFault}
+use Rattle.reading.specs.Read.{Asked, tablesOf, locateFault, readFault}
 
 -- a frame around t0 is in hand: rows 3 to 7, 17 and 22
 pub record InHand (l : Layout) (t : Tables) (s : State) (room t0 : ℕ) : Type 0 where

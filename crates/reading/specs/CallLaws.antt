@@ -20,8 +20,10 @@ use Rattle.state.specs.declared.State.{State}
 use Rattle.reading.specs.declared.LocateAnswer.the-variants as loc
 use Rattle.reading.specs.declared.ReadAnswer.{ReadAnswer}
 use Rattle.reading.specs.declared.ReadAnswer.the-variants as rd
-use Rattle.reading.specs.Read.{Asked, tablesOf, foundIn, placeFault, locateFault}
-use Rattle.reading.specs.Read.{locateOutcome, LocatedBy, frameFault, readFault, readBegun}
+use Rattle.read_fault.specs.Faults.{placeFault}
+use Rattle.reading.specs.Read.{Asked, tablesOf, foundIn, locateFault}
+use Rattle.read_fault.specs.Faults.{frameFault}
+use Rattle.reading.specs.Read.{locateOutcome, LocatedBy, readFault, readBegun}
 use Rattle.reading.specs.Read.{symbolsRead, gainFault, readAccepted, readOutcome, ReadBy}
 use Rattle.reading.specs.Decoded.{unlessSilent, AcceptedBy}
 

@@ -27,7 +27,7 @@ use Rattle.decode.specs.Median.{phaseMedian}
 use Rattle.decode.specs.Entries.{mean-at, divided-at, step-at}
 use Rattle.decode.specs.Places.{variance-same, soft-same}
 use Rattle.reading.specs.declared.ReadAnswer.the-variants as rd
-use Rattle.reading.specs.Conditions.{wrongGain}
+use Rattle.read_fault.specs.Conditions.{wrongGain}
 use Rattle.reading.specs.Reading.{readingOf}
 use Rattle.reading.specs.Read.{gainFault, stepsLeft}
 use Rattle.reading.specs.Decoded.{unlessSilent, DecodedBy}

@@ -20,7 +20,8 @@ use Rattle.decode.specs.Steps.{undivided, divided, gainOf, scratchOf}
 use Rattle.decode.specs.SoftBits.{softBits}
 use Rattle.state.specs.declared.State.{State}
 use Rattle.rx.specs.View.{view}
-use Rattle.state.specs.Conditions.{wrongState}
+use Rattle.read_fault.specs.Conditions.{wrongGain}
+use Rattle.read_fault.specs.Faults.{placeFault, frameFault}
 use Rattle.reading.specs.declared.Reading.{Reading}
 use Rattle.reading.specs.declared.LocateAnswer.{LocateAnswer}
 use Rattle.reading.specs.declared.LocateAnswer.the-variants as loc
@@ -28,7 +29,6 @@ use Rattle.reading.specs.declared.ReadAnswer.{ReadAnswer}
 use Rattle.reading.specs.declared.ReadAnswer.the-variants as rd
 use Rattle.reading.specs.Rows.{Rows, trackRows}
 use Rattle.reading.specs.Reading.{located, symbolsFound, readingOf}
-use Rattle.reading.specs.Conditions.{wrongBuffers, framePast, notInHand, wrongDrift, wrongGain}
 
 -- what a reading is asked beside state and memory; locating takes no drift rows
 pub record Asked : Type 0 where
@@ -59,11 +59,7 @@ unfoldable pub symbolsRead : Layout → Asked → State → List Float → List 
 symbolsRead l a s memory = symbolsFound l (tablesOf a) (a .drift) (rowsIn l s memory) (a .t0)
 
 -- ---- `locate`
--- rows 17 and 22, without its clause on drift rows
-unfoldable pub placeFault : Layout → State → ℕ → ℕ → Fault
-placeFault l s room t0 = firstFault ((no.State, wrongState l room s) ∷ (no.NotInHand, framePast l s t0) ∷ [])
-
--- rows 3 to 7, then these
+-- rows 3 to 7, then 17 and 22
 unfoldable pub locateFault : Layout → Asked → State → ℕ → Fault
 locateFault l a s room = orElse (tableFault l (a .markers) (a .phasors)) (placeFault l s room (a .t0))
 
@@ -83,17 +79,7 @@ pub record LocatedBy (a : Asked) (s : State) (memory : List Float) (r : LocateAn
   pub answer : locateAnswered r ≡ locateOutcome a s memory
 
 -- ---- `read`
--- rows 11, 17, 22 and 23, top to bottom, where memory, scratch and out hold so many f64
-unfoldable pub frameFault : Layout → State → ℕ → ℕ → List Float → ℕ → ℕ → Fault
-frameFault l s room t0 drift scratch out =
-    firstFault
-    ((no.Buffer, wrongBuffers l scratch out) ∷
-    (no.State, wrongState l room s) ∷
-    (no.NotInHand, notInHand l s t0 drift) ∷
-    (no.DriftRows, wrongDrift l drift) ∷
-    [])
-
--- rows 3 to 7, then these
+-- rows 3 to 7, then 11, 17, 22 and 23, where memory, scratch and out hold so many f64
 unfoldable pub readFault : Layout → Asked → State → ℕ → ℕ → ℕ → Fault
 readFault l a s room scratch out =
     orElse (tableFault l (a .markers) (a .phasors)) (frameFault l s room (a .t0) (a .drift) scratch out)

@@ -12,13 +12,10 @@ ghost use Rattle.reading.specs.Reading.{located};
 ghost use Rattle.reading.specs.Read.{asked, rowsIn, LocatedBy, ReadBy};
 ghost use Rattle.reading.specs.Begun.{InHand, Begun};
 ghost use Rattle.reading.specs.Decoded.{DecodedBy, AcceptedBy};
-
-mod conditions;
-mod fault;
-
 use level::Chosen;
 use level::Layout;
 use locate::Located;
+use read_fault::conditions;
 use refusal::Fault;
 use refusal::Position;
 use refusal::Refusal;
@@ -79,7 +76,7 @@ pub fn locate(
     match chosen {
         Chosen::Refused(r) => LocateAnswer::Refused(r),
         Chosen::Psk(l) => {
-            let fault = fault::locate_fault(l, markers, phasors, s, memory.len(), t0);
+            let fault = read_fault::locate_fault(l, markers, phasors, s, memory.len(), t0);
             match fault {
                 Fault::Met(r) => LocateAnswer::Refused(r),
                 Fault::Clear => LocateAnswer::Found(find(l, markers, phasors, s, memory, t0)),
@@ -166,7 +163,7 @@ pub fn read(
     match chosen {
         Chosen::Refused(r) => ReadAnswer::Refused(r),
         Chosen::Psk(l) => {
-            let fault = fault::read_fault(
+            let fault = read_fault::read_fault(
                 l,
                 markers,
                 phasors,

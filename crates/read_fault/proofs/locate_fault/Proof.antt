@@ -1,4 +1,4 @@
--- `reading::fault::locate_fault` meets its contract: the tables' fault, or else that of rows 17 and 22. Assumes nothing.
+-- `read_fault::locate_fault` meets its contract: the tables' fault, or else that of rows 17 and 22. Assumes nothing.
 use mathlib.Core.Path.{_≡_, sym, ap, _∙_}
 use Rattle.refusal.specs.declared.Refusal.{Refusal}
 use Rattle.refusal.specs.declared.Fault.{Fault}
@@ -6,8 +6,8 @@ use Rattle.refusal.specs.declared.Fault.the-variants.{Clear, Met}
 use Rattle.refusal.specs.Outcome.{orElse}
 use Rattle.level.specs.SizedLaws.{sized}
 use borrow.Author.Needs.{needs}
-use Rattle.reading.proofs.fault.locate_fault.Statement.{statement}
-use Rattle.reading.proofs.fault.locate_fault.Tie as tie
+use Rattle.read_fault.proofs.locate_fault.Statement.{statement}
+use Rattle.read_fault.proofs.locate_fault.Tie as tie
 
 -- the tables' fault, or else the other rows'
 met : (f t g : Fault) (r : Refusal) → f ≡ t → f ≡ Met r → f ≡ orElse t g

@@ -1,4 +1,4 @@
--- `reading::conditions::not_in_hand` meets its contract: the two clauses, one after the other. Assumes nothing.
+-- `read_fault::conditions::not_in_hand` meets its contract: the two clauses, one after the other. Assumes nothing.
 use Prim.Native.Nat.{ℕ}
 use mathlib.Core.Path.{_≡_, sym, _∙_}
 use mathlib.Core.Bool.{Bool, true, false}
@@ -6,10 +6,10 @@ use mathlib.Core.List.{List}
 use lib.Ieee.{Float}
 use Rattle.level.specs.declared.Layout.{Layout}
 use Rattle.state.specs.declared.State.{State}
-use Rattle.reading.specs.Conditions.{framePast, samplesPast, notInHand}
+use Rattle.read_fault.specs.Conditions.{framePast, samplesPast, notInHand}
 use borrow.Author.Needs.{needs}
-use Rattle.reading.proofs.conditions.not_in_hand.Statement.{statement}
-use Rattle.reading.proofs.conditions.not_in_hand.Tie as tie
+use Rattle.read_fault.proofs.conditions.not_in_hand.Statement.{statement}
+use Rattle.read_fault.proofs.conditions.not_in_hand.Tie as tie
 
 first : (l : Layout) (s : State) (t0 : ℕ) (drift : List Float) → framePast l s t0 ≡ true → true ≡ notInHand l s t0 drift
 unfolding notInHand

@@ -1,4 +1,4 @@
--- `reading::conditions::samples_past` meets its contract: drift rows of any length ask for samples. Assumes nothing.
+-- `read_fault::conditions::samples_past` meets its contract: drift rows of any length ask for samples. Assumes nothing.
 use Prim.Native.Nat.{ℕ, _+_}
 use mathlib.Core.Path.{_≡_}
 use mathlib.Core.Bool.{false}
@@ -9,10 +9,10 @@ use lib.Ieee.{Float}
 use borrow.Author.Tests.{eq-eqb, ne-eqb}
 use Rattle.level.specs.declared.Layout.{Layout}
 use Rattle.state.specs.declared.State.{State}
-use Rattle.reading.specs.Conditions.{samplesPast}
+use Rattle.read_fault.specs.Conditions.{samplesPast}
 use borrow.Author.Needs.{needs}
-use Rattle.reading.proofs.conditions.samples_past.Statement.{statement}
-use Rattle.reading.proofs.conditions.samples_past.Tie as tie
+use Rattle.read_fault.proofs.conditions.samples_past.Statement.{statement}
+use Rattle.read_fault.proofs.conditions.samples_past.Tie as tie
 
 empty : (l : Layout) (s : State) (t0 : ℕ) (drift : List Float) → length drift ≡ 0 → false ≡ samplesPast l s t0 drift
 unfolding samplesPast
@@ -35,8 +35,8 @@ add-result-2 c = search needs
 
 returns-2 : tie.Need-returns-2
 returns-2 c =
-    let s = c .before .before .before .before .before in
-    some (s .args .l) (s .args .s) (s .args .t0) (s .args .drift .now) (c .before .before .before .before .if1 .left)
+    let s = c .before .before .before in
+    some (s .args .l) (s .args .s) (s .args .t0) (s .args .drift .now) (c .before .before .if1 .left)
 
 pub samples-past-spec : {M : Type 1} → statement M
 samples-past-spec = tie.close (tie.spec returns add-result add-result-2 returns-2)

@@ -1,4 +1,4 @@
--- `reading::conditions::wrong_buffers` meets its contract: either length. Assumes nothing.
+-- `read_fault::conditions::wrong_buffers` meets its contract: either length. Assumes nothing.
 use Prim.Native.Nat.{ℕ, _*_}
 use mathlib.Core.Path.{_≡_}
 use mathlib.Core.Bool.{true, not}
@@ -6,10 +6,10 @@ use native.Mathlib.Omega.{arith}
 use lib.Dec.{eqb}
 use borrow.Author.Tests.{eq-eqb, ne-eqb}
 use Rattle.level.specs.declared.Layout.{Layout}
-use Rattle.reading.specs.Conditions.{wrongBuffers}
+use Rattle.read_fault.specs.Conditions.{wrongBuffers}
 use borrow.Author.Needs.{needs}
-use Rattle.reading.proofs.conditions.wrong_buffers.Statement.{statement}
-use Rattle.reading.proofs.conditions.wrong_buffers.Tie as tie
+use Rattle.read_fault.proofs.conditions.wrong_buffers.Statement.{statement}
+use Rattle.read_fault.proofs.conditions.wrong_buffers.Tie as tie
 
 scratch-wrong : (l : Layout) (scratch out : ℕ) → (scratch ≡ 2 * (l .nc * l .nsym) → ⊥) → true ≡ wrongBuffers l scratch out
 unfolding wrongBuffers

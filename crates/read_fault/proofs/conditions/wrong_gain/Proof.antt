@@ -1,11 +1,11 @@
--- `reading::conditions::wrong_gain` meets its contract: above 0 and below infinity. Assumes nothing.
+-- `read_fault::conditions::wrong_gain` meets its contract: above 0 and below infinity. Assumes nothing.
 use mathlib.Core.Path.{_≡_}
 use mathlib.Core.Bool.{true, false, not}
 use lib.Ieee.{Float, inf, lt, ofBits, div}
 use Rattle.complex.specs.Arithmetic.{fzero}
-use Rattle.reading.specs.Conditions.{wrongGain}
-use Rattle.reading.proofs.conditions.wrong_gain.Statement.{statement}
-use Rattle.reading.proofs.conditions.wrong_gain.Tie as tie
+use Rattle.read_fault.specs.Conditions.{wrongGain}
+use Rattle.read_fault.proofs.conditions.wrong_gain.Statement.{statement}
+use Rattle.read_fault.proofs.conditions.wrong_gain.Tie as tie
 
 above : (g : Float) → lt fzero g ≡ true → not (lt g (inf false)) ≡ wrongGain g
 unfolding wrongGain

@@ -1,4 +1,4 @@
--- `reading::fault::place_fault` meets its contract: conditions 17 and 22. Assumes nothing.
+-- `read_fault::place_fault` meets its contract: conditions 17 and 22. Assumes nothing.
 use Prim.Native.Nat.{ℕ}
 use mathlib.Core.Path.{_≡_, refl, sym, _∙_}
 use mathlib.Core.Bool.{true, false}
@@ -9,11 +9,11 @@ use Rattle.level.specs.SizedLaws.{sized}
 use Rattle.state.specs.declared.State.{State}
 use Rattle.state.specs.Near.{near-state}
 use Rattle.state.specs.Conditions.{wrongState}
-use Rattle.reading.specs.Conditions.{framePast}
-use Rattle.reading.specs.Read.{placeFault}
+use Rattle.read_fault.specs.Conditions.{framePast}
+use Rattle.read_fault.specs.Faults.{placeFault}
 use borrow.Author.Needs.{needs}
-use Rattle.reading.proofs.fault.place_fault.Statement.{statement}
-use Rattle.reading.proofs.fault.place_fault.Tie as tie
+use Rattle.read_fault.proofs.place_fault.Statement.{statement}
+use Rattle.read_fault.proofs.place_fault.Tie as tie
 
 module _ (l : Layout) (s : State) (room t0 : ℕ) where
   state : wrongState l room s ≡ true → Met no.State ≡ placeFault l s room t0

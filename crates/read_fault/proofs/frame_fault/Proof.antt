@@ -1,4 +1,4 @@
--- `reading::fault::frame_fault` meets its contract: conditions 11, 17, 22 and 23, one after the other. Assumes nothing.
+-- `read_fault::frame_fault` meets its contract: conditions 11, 17, 22 and 23, one after the other. Assumes nothing.
 use Prim.Native.Nat.{ℕ}
 use mathlib.Core.Path.{_≡_, refl, sym, _∙_}
 use mathlib.Core.Bool.{true, false}
@@ -11,11 +11,11 @@ use Rattle.level.specs.SizedLaws.{sized}
 use Rattle.state.specs.declared.State.{State}
 use Rattle.state.specs.Near.{near-state}
 use Rattle.state.specs.Conditions.{wrongState}
-use Rattle.reading.specs.Conditions.{wrongBuffers, notInHand, wrongDrift}
-use Rattle.reading.specs.Read.{frameFault}
+use Rattle.read_fault.specs.Conditions.{wrongBuffers, notInHand, wrongDrift}
+use Rattle.read_fault.specs.Faults.{frameFault}
 use borrow.Author.Needs.{needs}
-use Rattle.reading.proofs.fault.frame_fault.Statement.{statement}
-use Rattle.reading.proofs.fault.frame_fault.Tie as tie
+use Rattle.read_fault.proofs.frame_fault.Statement.{statement}
+use Rattle.read_fault.proofs.frame_fault.Tie as tie
 
 module _ (l : Layout) (s : State) (room t0 : ℕ) (drift : List Float) (scratch out : ℕ) where
   buffers : wrongBuffers l scratch out ≡ true → Met no.Buffer ≡ frameFault l s room t0 drift scratch out

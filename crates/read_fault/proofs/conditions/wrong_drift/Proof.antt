@@ -1,4 +1,4 @@
--- `reading::conditions::wrong_drift` meets its contract: no rows, or as many as the layout fixes, each part from −1 to 1. Assumes nothing.
+-- `read_fault::conditions::wrong_drift` meets its contract: no rows, or as many as the layout fixes, each part from −1 to 1. Assumes nothing.
 use Prim.Native.Nat.{ℕ, _*_, _≤_}
 use mathlib.Core.Path.{_≡_, sym, ap, _∙_}
 use mathlib.Core.Bool.{Bool, true, false, not}
@@ -13,11 +13,11 @@ use Rattle.level.specs.declared.Layout.{Layout}
 use Rattle.level.specs.Sized.{Sized}
 use Rattle.symbols.specs.Symbols.{driftLength}
 use Rattle.feed_fault.specs.Conditions.{one}
-use Rattle.reading.specs.Conditions.{wrongDrift}
+use Rattle.read_fault.specs.Conditions.{wrongDrift}
 use native.Mathlib.Omega.{arith}
 use borrow.Author.Needs.{needs}
-use Rattle.reading.proofs.conditions.wrong_drift.Statement.{statement}
-use Rattle.reading.proofs.conditions.wrong_drift.Tie as tie
+use Rattle.read_fault.proofs.conditions.wrong_drift.Statement.{statement}
+use Rattle.read_fault.proofs.conditions.wrong_drift.Tie as tie
 
 rows-small : (l : Layout) {n : ℕ} → Sized l → n ≡ driftLength l → l .nc * n ≤ 13 * 15000
 rows-small l {n} z e =

@@ -1,4 +1,4 @@
--- `reading::conditions::outside_one` meets its contract: whether one of the parts passed is outside −1 to 1. Assumes nothing.
+-- `read_fault::conditions::outside_one` meets its contract: whether one of the parts passed is outside −1 to 1. Assumes nothing.
 use Prim.Native.Nat.{ℕ, _+_, _-_, _≤_}
 use mathlib.Core.Path.{_≡_, sym, ap, _∙_}
 use mathlib.Core.Bool.{Bool, true, false, not, or-false}
@@ -12,8 +12,8 @@ use Rattle.laws.specs.Tests.{inRange}
 use Rattle.feed_fault.specs.Conditions.{one}
 use borrow.Author.Needs.{needs}
 use native.Mathlib.Omega.{arith}
-use Rattle.reading.proofs.conditions.outside_one.Statement.{statement}
-use Rattle.reading.proofs.conditions.outside_one.Tie as tie
+use Rattle.read_fault.proofs.conditions.outside_one.Statement.{statement}
+use Rattle.read_fault.proofs.conditions.outside_one.Tie as tie
 
 abbrev Inv-loop : tie.InvT-loop
 Inv-loop drift outside₀ i₀ outside i = (i ≤ length drift) × (outside ≡ any (λ i. not (inRange (neg one) one (getD drift i nan))) i)

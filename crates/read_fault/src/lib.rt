@@ -3,8 +3,10 @@ ghost use mathlib.Core.Path.{_≡_};
 ghost use Rattle.level.specs.Rows.{IsLayout};
 ghost use Rattle.refusal.specs.Outcome.{orElse};
 ghost use Rattle.dat.specs.Tables.{tableFault};
-ghost use Rattle.reading.specs.Read.{placeFault, frameFault};
-use crate::conditions;
+ghost use Rattle.read_fault.specs.Faults.{placeFault, frameFault};
+
+pub mod conditions;
+
 use level::Layout;
 use refusal::Fault;
 use refusal::Position;

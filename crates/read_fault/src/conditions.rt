@@ -8,8 +8,8 @@ ghost use Rattle.laws.specs.Tests.{inRange};
 ghost use Rattle.level.specs.Sized.{Sized};
 ghost use Rattle.state.specs.Near.{Near};
 ghost use Rattle.feed_fault.specs.Conditions.{one};
-ghost use Rattle.reading.specs.Conditions.{wrongBuffers, framePast, samplesPast};
-ghost use Rattle.reading.specs.Conditions.{notInHand, wrongDrift, wrongGain};
+ghost use Rattle.read_fault.specs.Conditions.{wrongBuffers, framePast, samplesPast};
+ghost use Rattle.read_fault.specs.Conditions.{notInHand, wrongDrift, wrongGain};
 use level::Layout;
 use state::State;
 use state::places;
@@ -30,9 +30,7 @@ pub fn frame_past(l: Layout, s: State, t0: u64) -> bool
     requires { ⌜ Sized l × Near s ⌝ }
     ensures { λ r. ⌜ r ≡ framePast l s t0 ⌝ }
 {
-    let filtered = s.filtered;
-    let base = filtered.base;
-    let end = places::span_end(filtered);
+    let end = places::span_end(s.filtered);
     let least = l.max_stagger + 32 * (l.nsym as u64 - 1) + 4;
     if end < least {
         return true;
@@ -40,7 +38,7 @@ pub fn frame_past(l: Layout, s: State, t0: u64) -> bool
     if end - least < t0 {
         return true;
     }
-    t0 < base.0 + 35
+    t0 < s.filtered.base.0 + 35
 }
 
 // Its clause on drift rows.
@@ -51,9 +49,7 @@ fn samples_past(l: Layout, s: State, t0: u64, drift: &[f64]) -> bool
     if drift.len() == 0 {
         return false;
     }
-    let samples = s.samples;
-    let base = samples.base;
-    t0 < base.0 + l.delay + 4
+    t0 < s.samples.base.0 + l.delay + 4
 }
 
 // Condition 22.

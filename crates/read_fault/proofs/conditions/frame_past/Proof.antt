@@ -1,4 +1,4 @@
--- `reading::conditions::frame_past` meets its contract: sums of t0 are never formed. Assumes nothing.
+-- `read_fault::conditions::frame_past` meets its contract: sums of t0 are never formed. Assumes nothing.
 use Prim.Native.Nat.{ℕ, _+_, _≤_, _<_}
 use mathlib.Core.Path.{_≡_}
 use mathlib.Core.Bool.{true}
@@ -9,10 +9,10 @@ use Rattle.level.specs.declared.Layout.{Layout}
 use Rattle.search.specs.Search.{reach}
 use Rattle.state.specs.declared.State.{State}
 use Rattle.state.specs.Conditions.{spanEnd}
-use Rattle.reading.specs.Conditions.{framePast}
+use Rattle.read_fault.specs.Conditions.{framePast}
 use borrow.Author.Needs.{needs}
-use Rattle.reading.proofs.conditions.frame_past.Statement.{statement}
-use Rattle.reading.proofs.conditions.frame_past.Tie as tie
+use Rattle.read_fault.proofs.conditions.frame_past.Statement.{statement}
+use Rattle.read_fault.proofs.conditions.frame_past.Tie as tie
 
 early : (l : Layout) (s : State) (t0 : ℕ) → spanEnd (s .filtered) < t0 + reach l + 4 → true ≡ framePast l s t0
 unfolding framePast
@@ -39,12 +39,12 @@ add-least-2 c = search needs
 
 returns : tie.Need-returns
 returns c =
-    let s = c .before .before .before .before .before in
+    let s = c .before .before .before in
     early (s .args .l) (s .args .s) (s .args .t0) (omega (arith, c .before .before .span-end .ensures))
 
 returns-2 : tie.Need-returns-2
 returns-2 c =
-    let s = c .before .before .before .before .before .before in
+    let s = c .before .before .before .before in
     early (s .args .l) (s .args .s) (s .args .t0) (omega (arith, c .before .before .before .span-end .ensures))
 
 add-result : tie.Need-add-result
@@ -52,7 +52,7 @@ add-result c = search needs
 
 returns-3 : tie.Need-returns-3
 returns-3 c =
-    let s = c .before .before .before .before .before .before .before in
+    let s = c .before .before .before .before .before in
     held (s .args .l) (s .args .s) (s .args .t0) (omega (arith, c .before .before .before .before .span-end .ensures))
 
 pub frame-past-spec : {M : Type 1} → statement M
