@@ -1,13 +1,11 @@
 -- The numbers that a call leaves are read by the next as the state, or the hold, that it came to. Assumes nothing.
 use Prim.Native.Nat.{ℕ, _≤_, _<_, _^_}
 use mathlib.Core.Path.{_≡_, refl, sym, ap, _∙_}
-use mathlib.Core.Bool.{Bool, true, false, cond}
-use mathlib.Core.List.{List, []}
+use mathlib.Core.Bool.{true}
+use mathlib.Core.List.{List}
 use native.Mathlib.Omega.{arith}
-use lib.Dec.{ltb, eqb}
-use lib.ListN.{length, getD}
 use lib.Ieee.{Float}
-use borrow.Author.Tests.{ltb-true, eq-eqb}
+use borrow.Author.Tests.{eq-eqb}
 use Rattle.refusal.specs.declared.Position.{Position}
 use Rattle.refusal.specs.declared.Refusal.{Refusal}
 use Rattle.refusal.specs.declared.Fault.{Fault}
@@ -31,30 +29,11 @@ use Rattle.rx.specs.declared.FeedAnswer.the-variants.{Accepted, Refused}
 use Rattle.feed_fault.specs.Faults.{startFault}
 use Rattle.rx.specs.Open.{openedState}
 use Rattle.rx.specs.Feed.{Left}
-use Rattle.modem_c.specs.Numbers.{narrow, position, holdAt, stateAt, stateOf}
-use Rattle.modem_c.specs.Numbers.{holdNumbers, heldMetric, numbersOf, metricOf}
+use Rattle.numbers.specs.Numbers.{position, holdAt, stateOf}
+use Rattle.numbers.specs.Numbers.{holdNumbers, heldMetric, numbersOf, metricOf}
 use Rattle.modem_c.specs.Calls.{lentState, feedRelease, lengthFault, openedInto, candidateOf, Offers}
 use Rattle.modem_c.specs.ReadBack.{OpenedRead, FedRead, OfferedRead}
-use Rattle.modem_c.proofs.Round.{hold-round, state-round}
-
--- ---- what numbers say has a bandwidth and a record that a u32 holds
-abbrev Below : State → Type 0
-Below s = (s .bandwidth < 2 ^ 32) × (s .rec < 2 ^ 32)
-
-narrow-below : (x : ℕ) → narrow x < 2 ^ 32
-narrow-below x = go (ltb x (2 ^ 32)) refl
-  where
-    go : (b : Bool) → ltb x (2 ^ 32) ≡ b → cond b x 0 < 2 ^ 32
-    go true e = ltb-true _ _ e
-    go false e = omega arith
-
-said-below : (ns : List ℕ) (m : Float) → Below (stateOf ns m)
-unfolding stateOf stateAt
-said-below ns m = go (eqb (length ns) 19)
-  where
-    go : (b : Bool) → Below (cond b (stateAt ns m) (stateAt [] m))
-    go true = (narrow-below (getD ns 0 0), narrow-below (getD ns 1 0))
-    go false = (narrow-below 0, narrow-below 0)
+use Rattle.numbers.proofs.Round.{hold-round, state-round, Below, said-below}
 
 -- ---- a feed, accepted or refused
 pub fed-read : FedRead

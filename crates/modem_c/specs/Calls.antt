@@ -17,7 +17,6 @@ use Rattle.hold.specs.declared.Hold.{Hold}
 use Rattle.hold.specs.declared.Candidate.{Candidate}
 use Rattle.hold.specs.declared.Candidate.the-variants.{NoCandidate, Metric}
 use Rattle.hold.specs.declared.Release.{Release}
-use Rattle.hold.specs.declared.Release.the-variants.{NoRelease, Released}
 use Rattle.hold.specs.declared.LoneAnswer.{LoneAnswer}
 use Rattle.hold.specs.declared.LoneAnswer.the-variants.{Refused}
 use Rattle.hold.specs.LoneOffer.{outcome, LoneOffers}
@@ -27,8 +26,8 @@ use Rattle.rx.specs.declared.FeedAnswer.the-variants as feed
 use Rattle.feed_fault.specs.Faults.{startFault}
 use Rattle.rx.specs.Open.{openedState}
 use Rattle.rx.specs.Feed.{Given, FedBy}
-use Rattle.modem_c.specs.Numbers.{layoutNumbers, stateOf, numbersOf, metricOf, holdAt, holdNumbers, heldMetric}
-use Rattle.modem_c.specs.Numbers.{position}
+use Rattle.numbers.specs.Numbers.{layoutNumbers, stateOf, numbersOf, metricOf, position, holdAt, holdNumbers, heldMetric}
+use Rattle.numbers.specs.Numbers.{LentRelease, releaseAfter}
 
 -- ---- a layout
 -- 11: the lent numbers are not `count`
@@ -59,22 +58,6 @@ pub record OpenCall (hz rec : ℕ) (markers : List ℕ) (phasors : List Float) (
   pub code-is : code ≡ codeOf (openedInto hz rec markers phasors start book state)
   pub state-is : state′ ≡ after (openedInto hz rec markers phasors start book state) numbersOf state
   pub metric-is : metric′ ≡ after (openedInto hz rec markers phasors start book state) metricOf metric
-
--- ---- a release
--- the three numbers of a release: whether there is one, its position and its metric
-pub record LentRelease : Type 0 where
-  pub released : ℕ
-  pub position : ℕ
-  pub metric : Float
-
--- these three
-abbrev pub lentRelease : ℕ → ℕ → Float → LentRelease
-lentRelease r p m = record { released = r; position = p; metric = m }
-
--- what they hold after an accepted feed or offer: position and metric are written only with a release
-abbrev pub releaseAfter : Release → LentRelease → LentRelease
-releaseAfter NoRelease before = lentRelease 0 (before .position) (before .metric)
-releaseAfter (Released p m) before = lentRelease 1 (p .0) m
 
 -- ---- a feed
 -- the numbers of a state or a hold, and the held candidate's metric

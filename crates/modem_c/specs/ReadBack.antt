@@ -1,23 +1,14 @@
 -- What a call for C leaves is read by the next one as the state, or the hold, that it came to. Definitions only.
-use Prim.Native.Nat.{ℕ, _<_, _^_}
+use Prim.Native.Nat.{ℕ}
 use mathlib.Core.Path.{_≡_}
 use mathlib.Core.List.{List}
 use lib.ListN.{length}
 use lib.Ieee.{Float}
 use Rattle.refusal.specs.Outcome.{answered}
-use Rattle.hold.specs.declared.Hold.{Hold}
 use Rattle.state.specs.declared.State.{State}
 use Rattle.rx.specs.Feed.{Given}
-use Rattle.modem_c.specs.Numbers.{holdAt, stateOf, holdNumbers, heldMetric, numbersOf, metricOf}
-use Rattle.modem_c.specs.Calls.{LentState, LentRelease, openedInto, OpenCall, FeedCall, OfferCall}
-
--- The numbers of a state say that state again: its bandwidth and its record are each a u32. Proved as `state-round`.
-abbrev pub StateRound : Type 0
-StateRound = (s : State) → s .bandwidth < 2 ^ 32 → s .rec < 2 ^ 32 → stateOf (numbersOf s) (metricOf s) ≡ s
-
--- The numbers of a hold say that hold again. Proved as `hold-round`.
-abbrev pub HoldRound : Type 0
-HoldRound = (h : Hold) → holdAt 0 (holdNumbers h) (heldMetric h) ≡ h
+use Rattle.numbers.specs.Numbers.{holdAt, stateOf, LentRelease}
+use Rattle.modem_c.specs.Calls.{LentState, openedInto, OpenCall, FeedCall, OfferCall}
 
 -- After an opening that answered with s, its numbers say s. Proved as `opened-read`.
 abbrev pub OpenedRead : Type 0

@@ -4,12 +4,12 @@ ghost use mathlib.Core.Path.{_≡_};
 ghost use mathlib.Core.List.{[]};
 ghost use Rattle.rx.specs.Feed.{given};
 ghost use Rattle.reading.specs.Read.{asked};
-ghost use Rattle.modem_c.specs.Numbers.{stateOf};
-ghost use Rattle.modem_c.specs.Calls.{candidateOf, lentRelease, lentState};
+ghost use Rattle.numbers.specs.Numbers.{stateOf, lentRelease};
+ghost use Rattle.modem_c.specs.Calls.{candidateOf, lentState};
 ghost use Rattle.modem_c.specs.Calls.{LayoutCall, OpenCall, FeedCall, OfferCall};
 ghost use Rattle.modem_c.specs.ReadingCalls.{shortResult, LocateCall, ReadCall};
 
-mod numbers;
+mod results;
 
 use hold::Candidate;
 use hold::LoneAnswer;
@@ -211,7 +211,7 @@ pub extern "C" fn dimpstea_locate(
     match answer {
         LocateAnswer::Refused(r) => refusal::number(r),
         LocateAnswer::Found(f) => {
-            numbers::write_located(t, result, f);
+            results::write_located(t, result, f);
             0
         }
     }
@@ -258,7 +258,7 @@ pub extern "C" fn dimpstea_read(
     match answer {
         ReadAnswer::Refused(r) => refusal::number(r),
         ReadAnswer::Read(f) => {
-            numbers::write_reading(t, result, f);
+            results::write_reading(t, result, f);
             0
         }
     }

@@ -18,7 +18,7 @@ use Rattle.hold.specs.declared.Release.{Release}
 use Rattle.hold.specs.declared.Release.the-variants.{NoRelease, Released}
 use Rattle.hold.specs.History.{Detection}
 use Rattle.hold.specs.Releases.{released}
-use Rattle.modem_c.specs.Calls.{LentRelease, releaseAfter}
+use Rattle.numbers.specs.Numbers.{LentRelease, releaseAfter}
 use Rattle.modem_hosts.specs.CallLists.{Reply, handed}
 
 -- ---- what a host reads

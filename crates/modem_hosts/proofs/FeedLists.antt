@@ -9,7 +9,8 @@ use Rattle.rx.specs.declared.FeedAnswer.the-variants.{Accepted, Refused}
 use Rattle.rx.specs.Feed.{Given, outcome}
 use Rattle.modem.specs.Ideal.{verdict}
 use Rattle.modem.specs.Calls.{none, next, detections, answersOf}
-use Rattle.modem_c.specs.Calls.{LentState, LentRelease, feedRelease, FeedCall}
+use Rattle.numbers.specs.Numbers.{LentRelease}
+use Rattle.modem_c.specs.Calls.{LentState, feedRelease, FeedCall}
 use Rattle.modem_c.proofs.ReadBack.{fed-read}
 use Rattle.modem_hosts.specs.CallLists as list
 use Rattle.modem_hosts.specs.CallLists.{Reply, handed, handedOver, FedAs, FeedsRead}

@@ -12,8 +12,8 @@ use Rattle.hold.specs.declared.LoneAnswer.the-variants.{Refused, Answered}
 use Rattle.hold.specs.LoneOffer.{outcome}
 use Rattle.hold.specs.LoneCalls.{none, next, releasedBy, loneAnswers}
 use Rattle.hold.proofs.LoneHistory.{lone-history}
-use Rattle.modem_c.specs.Numbers.{holdNumbers, heldMetric}
-use Rattle.modem_c.specs.Calls.{LentState, lentState, LentRelease, OfferCall}
+use Rattle.numbers.specs.Numbers.{holdNumbers, heldMetric, LentRelease}
+use Rattle.modem_c.specs.Calls.{LentState, lentState, OfferCall}
 use Rattle.modem_c.proofs.ReadBack.{offered-read}
 use Rattle.modem_hosts.specs.CallLists as list
 use Rattle.modem_hosts.specs.CallLists.{Reply, handed, handedOver, OfferGiven, offersSaid, holdSaid, OfferedAs}

@@ -25,8 +25,8 @@ use Rattle.rx.specs.Feed.{Given}
 use Rattle.modem.specs.Follows.{OpenedAs, wrongMemoryVerdict}
 use Rattle.modem.proofs.Refused.{all-refused}
 use Rattle.modem.proofs.Opened.{opened-as, opened-follows, opened-rule}
-use Rattle.modem_c.specs.Numbers.{numbersOf, metricOf}
-use Rattle.modem_c.specs.Calls.{LentState, lentState, LentRelease, feedRelease, lengthFault, openedInto}
+use Rattle.numbers.specs.Numbers.{numbersOf, metricOf, LentRelease}
+use Rattle.modem_c.specs.Calls.{LentState, lentState, feedRelease, lengthFault, openedInto}
 use Rattle.modem_c.specs.Calls.{OpenCall, FeedCall}
 use Rattle.modem_c.proofs.ReadBack.{opened-read}
 use Rattle.modem_hosts.specs.CallLists as list

@@ -24,8 +24,8 @@ use Rattle.rx.specs.Feed.{Given}
 use Rattle.modem.specs.Ideal.{accepted, verdicts, offersOf}
 use Rattle.modem.specs.Calls.{Calls, detections, answersOf}
 use Rattle.modem.specs.Follows.{Follows, wrongMemoryVerdict}
-use Rattle.modem_c.specs.Numbers.{position, stateOf, holdAt}
-use Rattle.modem_c.specs.Calls.{LentRelease, LentState, lentState, candidateOf}
+use Rattle.numbers.specs.Numbers.{position, stateOf, holdAt, LentRelease}
+use Rattle.modem_c.specs.Calls.{LentState, lentState, candidateOf}
 use Rattle.modem_c.specs.Calls.{OpenCall, FeedCall, OfferCall}
 
 -- ---- what a host reads

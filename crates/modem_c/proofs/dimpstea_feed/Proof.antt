@@ -31,8 +31,8 @@ use Rattle.feed_fault.specs.Conditions.{wrongBook}
 use Rattle.feed_fault.specs.Faults.{sampleFault}
 use Rattle.rx.specs.Feed.{Given, feedFault, feedOf, feedOutcome, outcome, FedBy}
 use Rattle.rx.specs.Sound.{sound}
-use Rattle.modem_c.specs.Numbers.{stateAt, stateOf, numbersOf, metricOf}
-use Rattle.modem_c.specs.Calls.{LentRelease, lentState, releaseAfter, FeedCall}
+use Rattle.numbers.specs.Numbers.{stateAt, stateOf, numbersOf, metricOf, LentRelease, releaseAfter}
+use Rattle.modem_c.specs.Calls.{lentState, FeedCall}
 use borrow.Author.Needs.{needs}
 use Rattle.modem_c.proofs.dimpstea_feed.Statement.{statement}
 use Rattle.modem_c.proofs.dimpstea_feed.Tie as tie

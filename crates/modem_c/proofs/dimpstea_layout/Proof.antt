@@ -11,7 +11,7 @@ use Rattle.level.specs.declared.Layout.{Layout}
 use Rattle.level.specs.declared.Chosen.{Chosen}
 use Rattle.level.specs.declared.Chosen.the-variants.{Psk, Refused}
 use Rattle.level.specs.Layout.{chosen, outcome}
-use Rattle.modem_c.specs.Numbers.{layoutNumbers}
+use Rattle.numbers.specs.Numbers.{layoutNumbers}
 use Rattle.modem_c.specs.Calls.{LayoutCall}
 use borrow.Author.Needs.{needs}
 use Rattle.modem_c.proofs.dimpstea_layout.Statement.{statement}

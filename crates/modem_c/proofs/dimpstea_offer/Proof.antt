@@ -15,8 +15,8 @@ use Rattle.hold.specs.declared.Release.{Release}
 use Rattle.hold.specs.declared.LoneOffered.{LoneOffered}
 use Rattle.hold.specs.declared.LoneAnswer.the-variants.{Refused, Answered}
 use Rattle.hold.specs.LoneOffer.{outcome, LoneOffers}
-use Rattle.modem_c.specs.Numbers.{position, holdAt, holdNumbers, heldMetric}
-use Rattle.modem_c.specs.Calls.{LentRelease, lentState, candidateOf, releaseAfter, Offers, OfferCall}
+use Rattle.numbers.specs.Numbers.{position, holdAt, holdNumbers, heldMetric, LentRelease, releaseAfter}
+use Rattle.modem_c.specs.Calls.{lentState, candidateOf, Offers, OfferCall}
 use borrow.Author.Needs.{needs}
 use Rattle.modem_c.proofs.dimpstea_offer.Statement.{statement}
 use Rattle.modem_c.proofs.dimpstea_offer.Tie as tie

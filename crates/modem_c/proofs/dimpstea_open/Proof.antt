@@ -24,7 +24,7 @@ use Rattle.rx.specs.declared.OpenAnswer.the-variants.{Opened, Refused}
 use Rattle.feed_fault.specs.Conditions.{wrongStart, wrongBook}
 use Rattle.feed_fault.specs.Faults.{startFault, openFault}
 use Rattle.rx.specs.Open.{openedState, openOutcome, outcome}
-use Rattle.modem_c.specs.Numbers.{numbersOf, metricOf}
+use Rattle.numbers.specs.Numbers.{numbersOf, metricOf}
 use Rattle.modem_c.specs.Calls.{openedInto, OpenCall}
 use borrow.Author.Needs.{needs}
 use Rattle.modem_c.proofs.dimpstea_open.Statement.{statement}

@@ -1,0 +1,13 @@
+-- `numbers::held_of` meets its contract: 0 says that there is no candidate. Assumes nothing.
+use borrow.Author.Tests.{eq-eqb, ne-eqb}
+use Rattle.numbers.proofs.held_of.Statement.{statement}
+use Rattle.numbers.proofs.held_of.Tie as tie
+
+returns : tie.Need-returns
+returns c = rw (eq-eqb _ _ (c .if1 .taken))
+
+returns-2 : tie.Need-returns-2
+returns-2 c = rw (ne-eqb _ _ (c .if1 .left))
+
+pub held-of-spec : {M : Type 1} → statement M
+held-of-spec = tie.close (tie.spec returns returns-2)
