@@ -23,9 +23,10 @@ use Rattle.track.specs.Memory.{partLength, samplesPart, filteredPart, stepPart,
 use Rattle.track.specs.KeptLaws.{track-before, track-after, parts-none, parts-join}
 use Rattle.track.specs.Append.{spanEnd, spanAfter}
 use Rattle.track.specs.Trims.{span-trimmed, span-end, span-short, span-none, append-none}
+use Rattle.fir.specs.Fir.{IsTaps}
 use Rattle.filter.specs.declared.Spans.{Spans}
 use Rattle.filter.specs.Filtered.{filteredAfter, stepsAfter, powersAfter, spansAfter, FilterFits, CarrierFiltered, Filtered}
-use Rattle.filter.specs.Carrier.{IsTaps, CarrierFits, FilteredMade, StepFits, StepsMade, CarrierMade, CarriersMade, SpansFit}
+use Rattle.filter.specs.Carrier.{CarrierFits, FilteredMade, StepFits, StepsMade, CarrierMade, CarriersMade, SpansFit}
 
 -- the receiver's taps at the start of a slice
 pub is-taps : (l : Layout) (t taps : List Float) → IsLayout l → length t ≡ 129 → taps ≡ filled (receiverTap (pulseOf (l .taps))) (l .taps) t → IsTaps l taps

@@ -3,9 +3,10 @@ use Prim.Native.Nat.{ℕ, suc, _+_, _-_, _*_, _<_, _≤_}
 use mathlib.Core.Path.{_≡_, ap, _∙_}
 use mathlib.Core.List.{List}
 use native.Mathlib.Omega.{arith}
-use native.Mathlib.Nat.{zero-mul}
+use native.Mathlib.Nat.{zero-add, zero-mul}
 use lib.Ieee.{Float}
 use Rattle.complex.specs.declared.Complex.{Complex}
+use Rattle.complex.specs.ListLaws.{tabulate-ext}
 use Rattle.complex.specs.Pairs.{cget, complexes, cfilled}
 use Rattle.complex.specs.PairLaws.{cfilled-at}
 use Rattle.level.specs.declared.Layout.{Layout}
@@ -19,11 +20,19 @@ use Rattle.track.specs.Memory.{partLength, samplesPart, filteredPart, stepPart,
 use Rattle.track.specs.KeptLaws.{part-within, track-before, track-after, parts-join}
 use Rattle.track.specs.Append.{spanAfter, AppendFits, Appended}
 use Rattle.track.specs.Trims.{span-short}
-use Rattle.filter.specs.Filter.{filteredAt, stepAt, powerOf}
+use Rattle.fir.specs.Fir.{turned, firAt}
+use Rattle.steps.specs.Steps.{stepOf, powerOf}
+use Rattle.filter.specs.Filter.{filteredAt, stepAt}
 use Rattle.filter.specs.declared.Spans.{Spans}
-use Rattle.filter.specs.Carrier.{turned, firAt, stepOf, CarrierFits, FilteredMade, StepFits, StepsMade}
-use Rattle.filter.proofs.Filling.{filled-window}
+use Rattle.filter.specs.Carrier.{CarrierFits, FilteredMade, StepFits, StepsMade}
 use Rattle.filter.proofs.Values.{fir-value, step-value}
+
+-- a slice that is filled with the values of a row
+filled-window : (f g : ℕ → Complex) (e n : ℕ) (l : List Float) → ((i : ℕ) → i < n → f i ≡ g (e + i)) → complexes (cfilled f n l) 0 n ≡ window g e n
+unfolding complexes window
+filled-window f g e n l h =
+    tabulate-ext (λ k. cget (cfilled f n l) (0 + k)) (λ i. g (e + i)) n
+    (λ i k. ap (cget (cfilled f n l)) (zero-add i) ∙ cfilled-at f n i l k ∙ h i k)
 
 -- an append of a slice that is filled with the values of a row
 appended-row : (l : Layout) (m q : List Float) (k : ℕ) (before after : Span) (f g : ℕ → Complex) (e n : ℕ) (new l₀ : List Float)

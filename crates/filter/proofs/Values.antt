@@ -1,5 +1,5 @@
 -- The values that the loops leave are those of the definitions. Assumes nothing.
-use Prim.Native.Nat.{ℕ, _+_, _-_, _*_, _^_, _<_, _≤_}
+use Prim.Native.Nat.{ℕ, _+_, _-_, _*_, _<_, _≤_}
 use mathlib.Core.Path.{_≡_, refl, sym, ap, ap₂, _∙_}
 use mathlib.Core.Bool.{Bool, true, false}
 use mathlib.Core.List.{List}
@@ -9,7 +9,7 @@ use borrow.Author.Tests.{le-leb, lt-leb, leb-true, leb-false}
 use lib.Dec.{leb}
 use lib.Ieee.{Float}
 use Rattle.complex.specs.declared.Complex.{Complex}
-use Rattle.complex.specs.Arithmetic.{czero, cmul, cconj, cscale, cpow}
+use Rattle.complex.specs.Arithmetic.{cmul, cconj, cscale}
 use Rattle.complex.specs.SumLaws.{sum-ext}
 use Rattle.complex.specs.Pairs.{cget, cfilled}
 use Rattle.complex.specs.PairLaws.{cfilled-at}
@@ -22,8 +22,9 @@ use Rattle.track.specs.Track.{valueAt}
 use Rattle.track.specs.Memory.{partLength, samplesPart, filteredPart, trackIn}
 use Rattle.track.specs.Values.{span-within}
 use Rattle.track.specs.Append.{spanEnd}
-use Rattle.filter.specs.Filter.{turnAt, filteredAt, stepAt, powerOf}
-use Rattle.filter.specs.Carrier.{turned, tapTerm, firAt, stepOf, IsTaps}
+use Rattle.fir.specs.Fir.{turnAt, turned, tapTerm, firAt, IsTaps}
+use Rattle.steps.specs.Steps.{stepOf}
+use Rattle.filter.specs.Filter.{filteredAt, stepAt}
 
 -- ---- filtered values
 module _
@@ -54,28 +55,7 @@ module _
       ∙ ap₂ cmul (ap (turnAt book (carrierHz l c)) q) (sym (sample-at i j h k)))
       (t .values j k))
 
--- ---- powers and steps
-module _ (l : Layout) (z : Complex) {r : Complex} where
-  pub square : l .bps ≡ 1 → r ≡ cpow 2 z → r ≡ powerOf l z
-  unfolding powerOf
-  square e h = h ∙ sym (ap (λ (b : ℕ). cpow (2 ^ b) z) e)
-
-  pub fourth : Sized l → (l .bps ≡ 1 → ⊥) → r ≡ cpow 4 z → r ≡ powerOf l z
-  unfolding powerOf
-  fourth s n h = h ∙ sym (ap (λ (b : ℕ). cpow (2 ^ b) z) (two (l .bps) (s .bps-least) (s .bps-most) n))
-    where
-      two : (b : ℕ) → 1 ≤ b → b ≤ 2 → (b ≡ 1 → ⊥) → b ≡ 2
-      two b h g n = omega arith
-
-module _ (m : List Float) (at place : ℕ) {r : Complex} where
-  pub no-neighbour : place < 32 → r ≡ czero → r ≡ stepOf m at place
-  unfolding stepOf
-  no-neighbour h e = rw (lt-leb 32 place h) e
-
-  pub neighbour : 32 ≤ place → r ≡ unitOf (cmul (cget m (at + place)) (cconj (cget m (at + (place - 32))))) → r ≡ stepOf m at place
-  unfolding stepOf
-  neighbour h e = rw (le-leb 32 place h) e
-
+-- ---- steps
 -- the step at a place is that at its position
 module _ (l : Layout) (m : List Float) (filtered : Span) (e n c at : ℕ) (begun : filtered .base .0 ≤ e) (ends : spanEnd filtered ≡ e + n)
     (start : at ≡ filteredPart c * partLength l) where

@@ -1,56 +1,19 @@
--- A carrier's part of the work: turn, sum over the taps, step, and the tracks appended to. Definitions only.
-use Prim.Native.Nat.{ℕ, suc, _+_, _-_, _*_, _^_, _<_, _≤_}
+-- A carrier's part of the work: the tracks appended to. Definitions only.
+use Prim.Native.Nat.{ℕ, suc, _+_, _*_, _^_, _<_, _≤_}
 use mathlib.Core.Path.{_≡_}
-use mathlib.Core.Bool.{cond}
 use mathlib.Core.List.{List}
-use lib.Dec.{leb}
-use lib.ListN.{length, getD}
-use lib.Ieee.{Float, nan}
-use Rattle.complex.specs.declared.Complex.{Complex}
-use Rattle.complex.specs.Arithmetic.{czero, cmul, cconj, cscale}
-use Rattle.complex.specs.Sums.{sumTo}
-use Rattle.complex.specs.Pairs.{cget}
-use Rattle.root.specs.Unit.{unitOf}
+use lib.Ieee.{Float}
 use Rattle.level.specs.declared.Layout.{Layout}
-use Rattle.level.specs.Layout.{pulseOf}
 use Rattle.level.specs.Lengths.{memoryLength}
 use Rattle.level.specs.Sized.{Sized}
-use Rattle.taps.specs.Taps.{receiverTap}
 use Rattle.track.specs.declared.Span.{Span}
 use Rattle.track.specs.Memory.{samplesPart, filteredPart, stepPart, powerPart, trackIn}
 use Rattle.track.specs.Kept.{PartsKept}
 use Rattle.track.specs.Append.{spanEnd, spanAfter}
+use Rattle.fir.specs.Fir.{IsTaps}
 use Rattle.filter.specs.declared.Spans.{Spans}
-use Rattle.filter.specs.declared.Four.{Four}
-use Rattle.filter.specs.Filter.{turnAt}
 use Rattle.filter.specs.Filtered.{filteredAfter, stepsAfter, powersAfter, spansAfter, FilterFits}
 use Rattle.filter.specs.Filtered.{CarrierFiltered}
-
--- the k-th sample from place `from` on, whose first is number `first`, turned
-unfoldable pub turned : List Float → List Float → ℕ → ℕ → ℕ → ℕ → Complex
-turned book memory hz first from k = cmul (turnAt book hz (first + k)) (cget memory (from + k))
-
--- a term of the sum over the taps
-abbrev pub tapTerm : List Float → List Float → ℕ → ℕ → Complex
-tapTerm v taps i j = cscale (cget v (i + j)) (getD taps j nan)
-
--- the sum over the first `count` taps, from place i of v on
-unfoldable pub firAt : List Float → List Float → ℕ → ℕ → Complex
-firAt v taps count i = sumTo (tapTerm v taps i) count
-
--- four numbers of a row, from i on
-abbrev pub fourOf : (ℕ → Complex) → ℕ → Four
-fourOf f i = record { first = f i; second = f (i + 1); third = f (i + 2); fourth = f (i + 3) }
-
--- the step at a place of the track that starts at place `at`
-unfoldable pub stepOf : List Float → ℕ → ℕ → Complex
-stepOf memory at place =
-    cond (leb 32 place) (unitOf (cmul (cget memory (at + place)) (cconj (cget memory (at + (place - 32)))))) czero
-
--- the receiver's taps of a layout at the start of a list
-pub record IsTaps (l : Layout) (taps : List Float) : Type 0 where
-  pub long : l .taps ≤ length taps
-  pub values : (j : ℕ) → j < l .taps → getD taps j nan ≡ receiverTap (pulseOf (l .taps)) j
 
 -- n > 0 values, from position e on, for carrier c
 pub record CarrierFits (l : Layout) (room book : ℕ) (taps : List Float) (samples : Span) (spans : Spans)

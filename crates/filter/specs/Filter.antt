@@ -1,22 +1,18 @@
--- Filter, step and power (01, "Tracks and filter"; rx/psk.rs, `filter`), of endless rows. Definitions only.
-use Prim.Native.Nat.{ℕ, _+_, _-_, _*_, _%_, _^_, max}
+-- Filter and step (01, "Tracks and filter"; rx/psk.rs, `filter`), of endless rows. Definitions only.
+use Prim.Native.Nat.{ℕ, _+_, _-_, max}
 use mathlib.Core.Bool.{cond}
 use mathlib.Core.List.{List}
 use lib.Dec.{leb}
 use lib.Ieee.{Float}
 use Rattle.complex.specs.declared.Complex.{Complex}
-use Rattle.complex.specs.Arithmetic.{czero, cmul, cconj, cscale, cpow}
+use Rattle.complex.specs.Arithmetic.{czero, cmul, cconj, cscale}
 use Rattle.complex.specs.Sums.{sumTo}
-use Rattle.complex.specs.Pairs.{cget}
 use Rattle.root.specs.Unit.{unitOf}
 use Rattle.level.specs.declared.Layout.{Layout}
 use Rattle.level.specs.Layout.{pulseOf}
 use Rattle.level.specs.Lengths.{carrierHz}
 use Rattle.taps.specs.Taps.{receiverTap}
-
--- "`rot` without drift: entry (fc × n mod 3000) of a lent turn book"
-abbrev pub turnAt : List Float → ℕ → ℕ → Complex
-turnAt book hz n = cget book (hz * n % 3000)
+use Rattle.fir.specs.Fir.{turnAt}
 
 -- carrier c's filtered value at position m, of samples s: the turned samples from m − delay on, each times its tap
 unfoldable pub filteredAt : Layout → List Float → ℕ → (ℕ → Complex) → ℕ → Complex
@@ -29,10 +25,6 @@ filteredAt l book c s m =
 -- the step at position m, of filtered values y that begin at base: "a step with no neighbour 32 before is zero"
 unfoldable pub stepAt : ℕ → (ℕ → Complex) → ℕ → Complex
 stepAt base y m = cond (leb (base + 32) m) (unitOf (cmul (y m) (cconj (y (m - 32))))) czero
-
--- the power of a step, of the order of the alphabet's size: 2 or 4
-unfoldable pub powerOf : Layout → Complex → Complex
-powerOf l z = cpow (2 ^ l .bps) z
 
 -- the end of the filtered track where the samples end at e: the first value waits for `delay` samples on either side
 abbrev pub filteredEnd : Layout → ℕ → ℕ → ℕ

@@ -12,8 +12,9 @@ use Rattle.track.specs.Track.{Track, valueAt, append}
 use Rattle.track.specs.Memory.{samplesPart, filteredPart, stepPart, powerPart, trackIn}
 use Rattle.track.specs.Kept.{PartsKept}
 use Rattle.track.specs.Append.{spanEnd, spanAfter}
+use Rattle.steps.specs.Steps.{powerOf}
 use Rattle.filter.specs.declared.Spans.{Spans}
-use Rattle.filter.specs.Filter.{filteredAt, stepAt, powerOf}
+use Rattle.filter.specs.Filter.{filteredAt, stepAt}
 
 -- carrier c's filtered track after n new values from position e on, of samples s
 abbrev pub filteredAfter : Layout → List Float → Track → ℕ → ℕ → ℕ → Track → Track

@@ -16,7 +16,8 @@ use Rattle.level.specs.Rows.{IsLayout}
 use Rattle.level.specs.RowLaws.{is-layout}
 use Rattle.level.specs.Sized.{Sized}
 use Rattle.level.specs.SizedLaws.{sized}
-use Rattle.filter.specs.Filter.{filteredEnd, powerOf}
+use Rattle.steps.specs.Steps.{powerOf}
+use Rattle.filter.specs.Filter.{filteredEnd}
 use Rattle.hold.specs.declared.Hold.{Hold}
 use Rattle.hold.specs.Offer.{freshHold}
 use Rattle.hold.specs.History.{Detection, Offer}

@@ -18,7 +18,8 @@ use Rattle.level.specs.Layout.{chosen}
 use Rattle.dat.specs.Tables.{tableFault}
 use Rattle.track.specs.Window.{window}
 use Rattle.track.specs.Track.{Track}
-use Rattle.filter.specs.Filter.{filteredAt, stepAt, powerOf, filteredEnd}
+use Rattle.steps.specs.Steps.{powerOf}
+use Rattle.filter.specs.Filter.{filteredAt, stepAt, filteredEnd}
 use Rattle.hold.specs.declared.Hold.{Hold}
 use Rattle.hold.specs.History.{Offer}
 use Rattle.search.specs.Chi.{chiAt}

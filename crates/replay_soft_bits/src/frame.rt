@@ -36,7 +36,7 @@ fn row_symbol(l: Layout, v: &[f64], taps: &[f64], phasors: &[f64], c: usize, s: 
         × Phasors l (now phasors) × (c < l .nc) × (s < l .nsym) ⌝ }
 {
     let entry = level::stagger(l.nc, c) as usize + 32 * s + 1;
-    let z = filter::fir_at(v, taps, l.taps, entry);
+    let z = fir::fir_at(v, taps, l.taps, entry);
     complex::mul(z, complex::get(phasors, c * l.nsym + s))
 }
 

@@ -8,7 +8,8 @@ use Rattle.complex.specs.Lists.{tabulate}
 use Rattle.level.specs.declared.Layout.{Layout}
 use Rattle.track.specs.Window.{window}
 use Rattle.track.specs.Track.{Track, endOf, valueAt, append}
-use Rattle.filter.specs.Filter.{filteredAt, stepAt, powerOf, filteredEnd}
+use Rattle.steps.specs.Steps.{powerOf}
+use Rattle.filter.specs.Filter.{filteredAt, stepAt, filteredEnd}
 use Rattle.hold.specs.declared.Hold.{Hold}
 use Rattle.hold.specs.Offer.{freshHold}
 use Rattle.hold.specs.History.{Offer, Detection}

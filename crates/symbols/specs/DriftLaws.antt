@@ -21,7 +21,7 @@ use Rattle.dat.specs.AcceptedLaws.{row-in}
 use Rattle.track.specs.declared.Span.{Span}
 use Rattle.track.specs.Memory.{partLength, samplesPart}
 use Rattle.track.specs.Values.{span-within, span-before, span-past}
-use Rattle.filter.specs.Carrier.{firAt, IsTaps}
+use Rattle.fir.specs.Fir.{firAt, IsTaps}
 use Rattle.symbols.specs.Symbols.{driftLength, driftSymbol}
 use Rattle.symbols.specs.Standing.{samplesIn, entryOf, turnedBy, SamplesFit}
 

@@ -16,7 +16,7 @@ use Rattle.dat.specs.Cells.{phasor}
 use Rattle.track.specs.declared.Span.{Span}
 use Rattle.track.specs.Memory.{partLength, samplesPart, filteredPart, trackIn}
 use Rattle.track.specs.Track.{valueAt}
-use Rattle.filter.specs.Carrier.{firAt, IsTaps}
+use Rattle.fir.specs.Fir.{firAt, IsTaps}
 use Rattle.search.specs.Fits.{Within}
 use Rattle.symbols.specs.declared.Four.{Four}
 use Rattle.symbols.specs.Symbols.{driftLength, filteredSymbol, driftSymbol}

@@ -12,7 +12,7 @@ use Rattle.complex.specs.Arithmetic.{cmul}
 use Rattle.complex.specs.Pairs.{cget, cset, cfilled}
 use Rattle.complex.specs.PairLaws.{cfilled-length, cfilled-step}
 use Rattle.eq.specs.Fill.{Filling, filling-none}
-use Rattle.filter.specs.Carrier.{firAt}
+use Rattle.fir.specs.Fir.{firAt}
 use Rattle.symbols.specs.declared.Four.{Four}
 use Rattle.symbols.specs.Standing.{storedFrom, partSymbol, fourApart, fourStored}
 

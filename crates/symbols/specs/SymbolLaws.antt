@@ -19,7 +19,7 @@ use Rattle.level.specs.SizedLaws.{sized}
 use Rattle.dat.specs.AcceptedLaws.{row-in}
 use Rattle.dat.specs.Cells.{phasor}
 use Rattle.track.specs.declared.Span.{Span}
-use Rattle.filter.specs.Carrier.{IsTaps}
+use Rattle.fir.specs.Fir.{IsTaps}
 use Rattle.symbols.specs.Symbols.{driftLength, filteredSymbol, symbolAt, symbolsAt}
 use Rattle.symbols.specs.Standing.{samplesIn, filteredIn, entryOf, turnedBy, partSymbol, filteredIth}
 use Rattle.symbols.specs.Standing.{driftIth, driftFrom}

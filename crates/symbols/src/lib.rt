@@ -9,7 +9,7 @@ ghost use Rattle.complex.specs.Pairs.{cget, cset, cfilled, parts};
 ghost use Rattle.level.specs.Lengths.{memoryLength};
 ghost use Rattle.level.specs.Sized.{Sized};
 ghost use Rattle.dat.specs.Accepted.{Phasors};
-ghost use Rattle.filter.specs.Carrier.{firAt, IsTaps};
+ghost use Rattle.fir.specs.Fir.{firAt, IsTaps};
 ghost use Rattle.symbols.specs.Symbols.{driftLength, filteredSymbol, symbolsAt};
 ghost use Rattle.symbols.specs.Standing.{samplesIn, filteredIn, placeOf, turnedBy, partSymbol, fourApart};
 ghost use Rattle.symbols.specs.Standing.{fourStored, storedFrom, filteredIth, driftIth, driftFrom, SamplesFit};
@@ -150,10 +150,10 @@ fn four_sums(v: &[f64], taps: &[f64], count: usize, i: usize) -> Four
     let mut k = 0;
     while k < count {
         let tap = taps[k];
-        first = filter::weigh(first, v, i + k, tap);
-        second = filter::weigh(second, v, i + 32 + k, tap);
-        third = filter::weigh(third, v, i + 64 + k, tap);
-        fourth = filter::weigh(fourth, v, i + 96 + k, tap);
+        first = fir::weigh(first, v, i + k, tap);
+        second = fir::weigh(second, v, i + 32 + k, tap);
+        third = fir::weigh(third, v, i + 64 + k, tap);
+        fourth = fir::weigh(fourth, v, i + 96 + k, tap);
         k += 1;
     }
     Four {
@@ -210,7 +210,7 @@ fn rest_symbols(
             out,
             phasors,
             at + k,
-            filter::fir_at(v, taps, count, from + 32 * k),
+            fir::fir_at(v, taps, count, from + 32 * k),
         );
         k += 1;
     }

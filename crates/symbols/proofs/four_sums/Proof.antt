@@ -7,7 +7,7 @@ use Rattle.complex.specs.declared.Complex.{Complex}
 use Rattle.complex.specs.Arithmetic.{cadd}
 use Rattle.complex.specs.Sums.{sumTo}
 use Rattle.complex.specs.SumLaws.{sum-step}
-use Rattle.filter.specs.Carrier.{firAt, tapTerm}
+use Rattle.fir.specs.Fir.{firAt, tapTerm}
 use Rattle.symbols.proofs.four_sums.Statement.{statement}
 use Rattle.symbols.proofs.four_sums.Tie as tie
 

@@ -14,7 +14,7 @@ use Rattle.level.specs.Layout.{pulseOf}
 use Rattle.level.specs.Rows.{IsLayout}
 use Rattle.level.specs.SizedLaws.{sized}
 use Rattle.taps.specs.Taps.{receiverTap}
-use Rattle.filter.specs.Carrier.{IsTaps}
+use Rattle.fir.specs.Fir.{IsTaps}
 use Rattle.symbols.specs.SymbolLaws.{by-filtered, by-drift}
 use Rattle.symbols.proofs.symbols.Statement.{statement}
 use Rattle.symbols.proofs.symbols.Tie as tie

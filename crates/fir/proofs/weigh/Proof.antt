@@ -1,7 +1,7 @@
--- `filter::weigh` meets its contract. Assumes nothing.
+-- `fir::weigh` meets its contract. Assumes nothing.
 use borrow.Author.Needs.{needs}
-use Rattle.filter.proofs.weigh.Statement.{statement}
-use Rattle.filter.proofs.weigh.Tie as tie
+use Rattle.fir.proofs.weigh.Statement.{statement}
+use Rattle.fir.proofs.weigh.Tie as tie
 
 get-requires : tie.Need-get-requires
 get-requires c κs = search needs

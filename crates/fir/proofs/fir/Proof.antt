@@ -1,12 +1,12 @@
--- `filter::fir` meets its contract: the places passed have their sums. Assumes nothing.
+-- `fir::fir` meets its contract: the places passed have their sums. Assumes nothing.
 use Prim.Native.Nat.{_+_, _-_, _≤_}
 use mathlib.Core.Path.{_≡_}
 use native.Mathlib.Omega.{arith}
 use borrow.Author.Needs.{needs}
-use Rattle.filter.proofs.Filling.{Filling, filling-none, filling-four, filling-again, filling-rest}
-use Rattle.filter.specs.Carrier.{firAt}
-use Rattle.filter.proofs.fir.Statement.{statement}
-use Rattle.filter.proofs.fir.Tie as tie
+use Rattle.fir.proofs.Filling.{Filling, filling-none, filling-four, filling-again, filling-rest}
+use Rattle.fir.specs.Fir.{firAt}
+use Rattle.fir.proofs.fir.Statement.{statement}
+use Rattle.fir.proofs.fir.Tie as tie
 
 abbrev Inv-loop : tie.InvT-loop
 Inv-loop out₀ v taps count n i₀ out i = (i ≤ n) × Filling (firAt v taps count) i out₀ out

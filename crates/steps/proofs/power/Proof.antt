@@ -1,8 +1,8 @@
--- `filter::power` meets its contract: an alphabet of one bit has two points, one of two bits four. Assumes nothing.
+-- `steps::power` meets its contract: an alphabet of one bit has two points, one of two bits four. Assumes nothing.
 use borrow.Author.Needs.{needs}
-use Rattle.filter.proofs.Values.{square, fourth}
-use Rattle.filter.proofs.power.Statement.{statement}
-use Rattle.filter.proofs.power.Tie as tie
+use Rattle.steps.proofs.Values.{square, fourth}
+use Rattle.steps.proofs.power.Statement.{statement}
+use Rattle.steps.proofs.power.Tie as tie
 
 powi-requires : tie.Need-powi-requires
 powi-requires c κs = search needs

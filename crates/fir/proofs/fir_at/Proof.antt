@@ -1,13 +1,13 @@
--- `filter::fir_at` meets its contract: the sum so far is that over the taps passed. Assumes nothing.
+-- `fir::fir_at` meets its contract: the sum so far is that over the taps passed. Assumes nothing.
 use Prim.Native.Nat.{_-_, _≤_}
 use mathlib.Core.Path.{_≡_, ap, _∙_}
 use native.Mathlib.Omega.{arith}
 use borrow.Author.Needs.{needs}
 use Rattle.complex.specs.Sums.{sumTo}
 use Rattle.complex.specs.SumLaws.{sum-step}
-use Rattle.filter.specs.Carrier.{firAt, tapTerm}
-use Rattle.filter.proofs.fir_at.Statement.{statement}
-use Rattle.filter.proofs.fir_at.Tie as tie
+use Rattle.fir.specs.Fir.{firAt, tapTerm}
+use Rattle.fir.proofs.fir_at.Statement.{statement}
+use Rattle.fir.proofs.fir_at.Tie as tie
 
 abbrev Inv-loop : tie.InvT-loop
 Inv-loop v taps count i sum₀ j₀ sum j = (j ≤ count) × (sum ≡ sumTo (tapTerm v taps i) j)

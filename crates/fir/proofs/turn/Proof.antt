@@ -1,16 +1,16 @@
--- `filter::turn` meets its contract: the samples passed are turned. Assumes nothing.
+-- `fir::turn` meets its contract: the samples passed are turned. Assumes nothing.
 use Prim.Native.Nat.{_-_, _≤_}
 use mathlib.Core.Path.{_≡_, ap₂, _∙_}
 use native.Mathlib.Omega.{arith}
 use borrow.Author.Needs.{needs}
-use Rattle.filter.proofs.Filling.{Filling, filling-none, filling-more}
+use Rattle.fir.proofs.Filling.{Filling, filling-none, filling-more}
 use Prim.Native.Nat.{_^_}
 use native.Mathlib.Nat.{lt-of-le-of-lt, mul-le-mul}
 use lib.Dec.{lit<}
 use Rattle.complex.specs.Arithmetic.{cmul}
-use Rattle.filter.specs.Carrier.{turned}
-use Rattle.filter.proofs.turn.Statement.{statement}
-use Rattle.filter.proofs.turn.Tie as tie
+use Rattle.fir.specs.Fir.{turned}
+use Rattle.fir.proofs.turn.Statement.{statement}
+use Rattle.fir.proofs.turn.Tie as tie
 
 abbrev Inv-loop : tie.InvT-loop
 Inv-loop out₀ memory from book hz first count k₀ out k = (k ≤ count) × Filling (turned book memory hz first from) k out₀ out

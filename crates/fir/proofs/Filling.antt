@@ -1,20 +1,19 @@
--- A loop that fills a slice with complex numbers: what it keeps, before it, a turn of it, and the row that it leaves. Assumes nothing.
+-- A loop that fills a slice with complex numbers: what it keeps, before it and a turn of it. Assumes nothing.
 use Prim.Native.Nat.{ℕ, _+_, _-_, _*_, _<_, _≤_}
 use mathlib.Core.Path.{_≡_, refl, sym, ap, _∙_}
 use mathlib.Core.List.{List, _++_}
 use native.Mathlib.Omega.{arith}
-use native.Mathlib.Nat.{zero-add, le-refl}
+use native.Mathlib.Nat.{le-refl}
 use lib.ListN.{length, drop}
 use lib.Seq.{drop-append-add, drop-drop}
 use lib.Ieee.{Float}
 use Rattle.complex.specs.declared.Complex.{Complex}
 use Rattle.complex.specs.Lists.{tabulate}
-use Rattle.complex.specs.ListLaws.{length-tabulate, tabulate-ext}
-use Rattle.complex.specs.Pairs.{cget, cset, complexes, parts, cfilled}
-use Rattle.complex.specs.PairLaws.{length-parts, cfilled-none, cfilled-length, cfilled-step, cfilled-at}
-use Rattle.track.specs.Window.{window}
-use Rattle.filter.specs.declared.Four.{Four}
-use Rattle.filter.specs.Carrier.{fourOf}
+use Rattle.complex.specs.ListLaws.{length-tabulate}
+use Rattle.complex.specs.Pairs.{cset, parts, cfilled}
+use Rattle.complex.specs.PairLaws.{length-parts, cfilled-none, cfilled-length, cfilled-step}
+use Rattle.fir.specs.declared.Four.{Four}
+use Rattle.fir.specs.Fir.{fourOf}
 
 pub record Filling (f : ℕ → Complex) (k : ℕ) (l m : List Float) : Type 0 where
   pub long : length m ≡ length l
@@ -59,10 +58,3 @@ module _ (f : ℕ → Complex) (k : ℕ) (l m : List Float) (i : Filling f k l m
   -- another loop that fills it up to n
   pub filling-rest : (n : ℕ) (r : List Float) → k ≤ n → r ≡ cfilled f n m → r ≡ cfilled f n l
   filling-rest n r h s = s ∙ ap (cfilled f n) (i .values) ∙ cfilled-over f k n l h
-
--- a slice that is filled with the values of a row
-pub filled-window : (f g : ℕ → Complex) (e n : ℕ) (l : List Float) → ((i : ℕ) → i < n → f i ≡ g (e + i)) → complexes (cfilled f n l) 0 n ≡ window g e n
-unfolding complexes window
-filled-window f g e n l h =
-    tabulate-ext (λ k. cget (cfilled f n l) (0 + k)) (λ i. g (e + i)) n
-    (λ i k. ap (cget (cfilled f n l)) (zero-add i) ∙ cfilled-at f n i l k ∙ h i k)

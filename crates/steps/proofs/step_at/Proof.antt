@@ -1,11 +1,11 @@
--- `filter::step_at` meets its contract: the definition's own operations. Assumes nothing.
+-- `steps::step_at` meets its contract: the definition's own operations. Assumes nothing.
 use mathlib.Core.Path.{ap, ap₂, _∙_}
 use borrow.Author.Needs.{needs}
 use Rattle.complex.specs.Arithmetic.{cmul, cconj}
 use Rattle.root.specs.Unit.{unitOf}
-use Rattle.filter.proofs.Values.{no-neighbour, neighbour}
-use Rattle.filter.proofs.step_at.Statement.{statement}
-use Rattle.filter.proofs.step_at.Tie as tie
+use Rattle.steps.proofs.Values.{no-neighbour, neighbour}
+use Rattle.steps.proofs.step_at.Statement.{statement}
+use Rattle.steps.proofs.step_at.Tie as tie
 
 zero-requires : tie.Need-zero-requires
 zero-requires c κs = search needs

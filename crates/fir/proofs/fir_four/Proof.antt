@@ -1,4 +1,4 @@
--- `filter::fir_four` meets its contract: each of the four sums so far is that over the taps passed. Assumes nothing.
+-- `fir::fir_four` meets its contract: each of the four sums so far is that over the taps passed. Assumes nothing.
 use Prim.Native.Nat.{ℕ, _+_, _-_, _≤_}
 use mathlib.Core.Path.{_≡_, sym, ap, _∙_}
 use native.Mathlib.Omega.{arith}
@@ -7,9 +7,9 @@ use Rattle.complex.specs.declared.Complex.{Complex}
 use Rattle.complex.specs.Arithmetic.{cadd}
 use Rattle.complex.specs.Sums.{sumTo}
 use Rattle.complex.specs.SumLaws.{sum-step}
-use Rattle.filter.specs.Carrier.{firAt, tapTerm}
-use Rattle.filter.proofs.fir_four.Statement.{statement}
-use Rattle.filter.proofs.fir_four.Tie as tie
+use Rattle.fir.specs.Fir.{firAt, tapTerm}
+use Rattle.fir.proofs.fir_four.Statement.{statement}
+use Rattle.fir.proofs.fir_four.Tie as tie
 
 abbrev Inv-loop : tie.InvT-loop
 Inv-loop v taps count i first₀ second₀ third₀ fourth₀ k₀ first second third fourth k =

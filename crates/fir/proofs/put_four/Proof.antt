@@ -1,7 +1,7 @@
--- `filter::put_four` meets its contract. Assumes nothing.
+-- `fir::put_four` meets its contract. Assumes nothing.
 use borrow.Author.Needs.{needs}
-use Rattle.filter.proofs.put_four.Statement.{statement}
-use Rattle.filter.proofs.put_four.Tie as tie
+use Rattle.fir.proofs.put_four.Statement.{statement}
+use Rattle.fir.proofs.put_four.Tie as tie
 
 put-requires : tie.Need-put-requires
 put-requires c κs = search needs

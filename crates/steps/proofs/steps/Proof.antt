@@ -1,12 +1,12 @@
--- `filter::steps` meets its contract: the places passed have their steps. Assumes nothing.
+-- `steps::steps` meets its contract: the places passed have their steps. Assumes nothing.
 use Prim.Native.Nat.{_+_, _-_, _≤_}
 use mathlib.Core.Path.{_≡_}
 use native.Mathlib.Omega.{arith}
 use borrow.Author.Needs.{needs}
-use Rattle.filter.proofs.Filling.{Filling, filling-none, filling-more}
-use Rattle.filter.specs.Carrier.{stepOf}
-use Rattle.filter.proofs.steps.Statement.{statement}
-use Rattle.filter.proofs.steps.Tie as tie
+use Rattle.fir.proofs.Filling.{Filling, filling-none, filling-more}
+use Rattle.steps.specs.Steps.{stepOf}
+use Rattle.steps.proofs.steps.Statement.{statement}
+use Rattle.steps.proofs.steps.Tie as tie
 
 abbrev Inv-loop : tie.InvT-loop
 Inv-loop out₀ memory at place n i₀ out i = (i ≤ n) × Filling (λ i. stepOf memory at (place + i)) i out₀ out

@@ -1,13 +1,13 @@
--- `filter::powers` meets its contract: the steps passed have their powers. Assumes nothing.
+-- `steps::powers` meets its contract: the steps passed have their powers. Assumes nothing.
 use Prim.Native.Nat.{_-_, _≤_}
 use mathlib.Core.Path.{_≡_, ap, _∙_}
 use native.Mathlib.Omega.{arith}
 use borrow.Author.Needs.{needs}
-use Rattle.filter.proofs.Filling.{Filling, filling-none, filling-more}
+use Rattle.fir.proofs.Filling.{Filling, filling-none, filling-more}
 use Rattle.complex.specs.Pairs.{cget}
-use Rattle.filter.specs.Filter.{powerOf}
-use Rattle.filter.proofs.powers.Statement.{statement}
-use Rattle.filter.proofs.powers.Tie as tie
+use Rattle.steps.specs.Steps.{powerOf}
+use Rattle.steps.proofs.powers.Statement.{statement}
+use Rattle.steps.proofs.powers.Tie as tie
 
 abbrev Inv-loop : tie.InvT-loop
 Inv-loop l out₀ steps n i₀ out i = (i ≤ n) × Filling (λ i. powerOf l (cget steps i)) i out₀ out

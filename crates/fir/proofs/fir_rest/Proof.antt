@@ -1,12 +1,12 @@
--- `filter::fir_rest` meets its contract: the places passed have their sums. Assumes nothing.
+-- `fir::fir_rest` meets its contract: the places passed have their sums. Assumes nothing.
 use Prim.Native.Nat.{_+_, _-_, _≤_}
 use mathlib.Core.Path.{_≡_, refl}
 use native.Mathlib.Omega.{arith}
 use borrow.Author.Needs.{needs}
-use Rattle.filter.proofs.Filling.{Filling, filling-more}
-use Rattle.filter.specs.Carrier.{firAt}
-use Rattle.filter.proofs.fir_rest.Statement.{statement}
-use Rattle.filter.proofs.fir_rest.Tie as tie
+use Rattle.fir.proofs.Filling.{Filling, filling-more}
+use Rattle.fir.specs.Fir.{firAt}
+use Rattle.fir.proofs.fir_rest.Statement.{statement}
+use Rattle.fir.proofs.fir_rest.Tie as tie
 
 abbrev Inv-loop : tie.InvT-loop
 Inv-loop out₀ v taps count from n at₀ out at = (at ≤ n) × Filling (firAt v taps count) at out₀ out
