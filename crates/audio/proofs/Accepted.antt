@@ -18,7 +18,7 @@ use Rattle.level.specs.Lengths.{rowLength, audioLength}
 use Rattle.level.specs.Rows.{IsLayout}
 use Rattle.nco.specs.Nco.{wrongPhases}
 use Rattle.audio.specs.CarrierAudio.{wrongBuffers, badPart, wrongSymbols, wrongWindow, waveBound, wrongWaves, audioFault}
-use Rattle.audio.specs.Parts.{Ready}
+use Rattle.window.specs.Parts.{Ready}
 
 module _ (l : Layout) where
   pub buffers-are : (window : ℕ) (phases out : List Float) → wrongBuffers l window phases out ≡ false → (length phases ≡ l .nc) × (length out ≡ window)

@@ -23,10 +23,10 @@ use Rattle.nco.specs.Phase.{carrierPhase, phasesAfter, phaseRows}
 use Rattle.nco.proofs.PhaseLaws.{carrier-join, phases-join}
 use Rattle.refusal.specs.declared.Answer.the-variants.{Done}
 use Rattle.nco.proofs.WindowCallLaws.{completed, chosen-of}
-use Rattle.audio.specs.Audio.{audio, audioWindow, lentWave}
+use Rattle.window.specs.Audio.{audio, audioWindow, lentWave}
 use Rattle.audio.specs.CarrierAudio.{audioFault, CarrierAudio}
 use Rattle.audio.specs.Windows.{signal, total, cuttings, AnyCutting, Lends, PhasesLend, Calls, one, next, CallsJoin}
-use Rattle.audio.proofs.SumsLaws.{where-ext}
+use Rattle.scatter.proofs.SumsLaws.{where-ext}
 use Rattle.audio.proofs.Accepted.{sound-of}
 
 tabulate-join : {A : Type 0} (f : ℕ → A) (a b : ℕ) → tabulate f (a + b) ≡ tabulate f a ++ tabulate (λ i. f (a + i)) b

@@ -17,7 +17,7 @@ use Rattle.level.specs.Lengths.{rowLength, audioLength}
 use Rattle.refusal.specs.declared.Answer.{Answer}
 use Rattle.nco.specs.Nco.{wrongPhases}
 use Rattle.nco.specs.WindowCall.{WindowCall}
-use Rattle.audio.specs.Audio.{lentWave, audioWindow}
+use Rattle.window.specs.Audio.{lentWave, audioWindow}
 
 -- 11: "an out or scratch buffer of wrong length": a phase for each carrier, and a sample for each place
 unfoldable pub wrongBuffers : Layout → ℕ → List Float → List Float → Bool

@@ -12,7 +12,7 @@ use Rattle.level.specs.Layout.{chosen}
 use Rattle.level.specs.Lengths.{audioLength}
 use Rattle.refusal.specs.declared.Answer.the-variants.{Done}
 use Rattle.nco.specs.Phase.{carrierPhase, phasesAfter, phaseRows}
-use Rattle.audio.specs.Audio.{audioWindow}
+use Rattle.window.specs.Audio.{audioWindow}
 use Rattle.audio.specs.CarrierAudio.{CarrierAudio}
 
 -- the whole signal, by the wave of each carrier at each place

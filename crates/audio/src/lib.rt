@@ -5,8 +5,6 @@ ghost use Rattle.level.specs.Rows.{IsLayout};
 ghost use Rattle.audio.specs.CarrierAudio.{CarrierAudio};
 
 mod fault;
-mod scatter;
-mod window;
 
 use level::Chosen;
 use level::Layout;

@@ -12,7 +12,7 @@ use Rattle.refusal.specs.Any.{any}
 use Rattle.level.specs.declared.Layout.{Layout}
 use Rattle.level.specs.Lengths.{rowLength}
 use Rattle.audio.specs.CarrierAudio.{badPart, wrongSymbols}
-use Rattle.audio.proofs.Sizes.{symbols-small}
+use Rattle.window.proofs.Sizes.{symbols-small}
 use Rattle.audio.proofs.fault.wrong_symbols.Statement.{statement}
 use Rattle.audio.proofs.fault.wrong_symbols.Tie as tie
 

@@ -13,7 +13,7 @@ use Rattle.laws.specs.Tests.{inSize}
 use Rattle.level.specs.declared.Layout.{Layout}
 use Rattle.nco.specs.Nco.{wrongPhases}
 use Rattle.audio.specs.CarrierAudio.{waveBound, wrongWaves}
-use Rattle.audio.proofs.Sizes.{waves-small}
+use Rattle.window.proofs.Sizes.{waves-small}
 use Rattle.audio.proofs.fault.wrong_waves.Statement.{statement}
 use Rattle.audio.proofs.fault.wrong_waves.Tie as tie
 

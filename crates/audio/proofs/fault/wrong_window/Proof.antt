@@ -9,7 +9,7 @@ use borrow.Author.Tests.{lt-ltb, le-ltb}
 use Rattle.level.specs.declared.Layout.{Layout}
 use Rattle.level.specs.Lengths.{audioLength}
 use Rattle.audio.specs.CarrierAudio.{wrongWindow}
-use Rattle.audio.proofs.Sizes.{audio-most}
+use Rattle.window.proofs.Sizes.{audio-most}
 use Rattle.audio.proofs.fault.wrong_window.Statement.{statement}
 use Rattle.audio.proofs.fault.wrong_window.Tie as tie
 
