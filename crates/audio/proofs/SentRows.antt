@@ -16,8 +16,8 @@ use Rattle.laws.specs.Floats.{Within}
 use Rattle.laws.specs.Ranges.{within-in-size, in-size-finite}
 use Rattle.level.specs.declared.Layout.{Layout}
 use Rattle.level.specs.Lengths.{rowLength}
-use Rattle.psk.specs.Symbols.{Sending, rowsOf}
-use Rattle.psk.specs.Accepted.{Ready}
+use Rattle.rows.specs.Symbols.{Sending, rowsOf}
+use Rattle.rows.specs.Accepted.{Ready}
 use Rattle.psk.proofs.AcceptedLaws.{call-of}
 use Rattle.psk.proofs.RowSize.{rows-length, rows-within}
 use Rattle.audio.specs.CarrierAudio.{symbolBound, badPart, wrongSymbols}

@@ -21,9 +21,10 @@ use Rattle.level.specs.Rows.{IsLayout}
 use Rattle.level.specs.RowLaws.{is-layout, same-layout}
 use Rattle.dat.specs.AcceptedLaws.{row-in}
 use Rattle.refusal.specs.declared.Answer.the-variants as sent
-use Rattle.psk.specs.Symbols.{Sending}
+use Rattle.rows.specs.Symbols.{Sending}
 use Rattle.psk.specs.Send.{Modulated}
-use Rattle.psk.specs.Accepted.{Ready, Call}
+use Rattle.rows.specs.Accepted.{Ready}
+use Rattle.psk.specs.Accepted.{Call}
 use Rattle.psk.proofs.AcceptedLaws.{call-of}
 use Rattle.decode.specs.Steps.{stepCount, stepPlace, gainOf, divided, receivedIn, scratchOf}
 use Rattle.decode.specs.SoftBits.{softBits}

@@ -25,9 +25,10 @@ use Rattle.dat.specs.Tables.{tableFault}
 use Rattle.level.specs.Frames.{wrongFrames}
 use Rattle.level.specs.FramesLaws.{frames-of}
 use Rattle.dat.specs.AcceptedLaws.{tables-of}
-use Rattle.psk.specs.Symbols.{Sending, rowsOf}
+use Rattle.rows.specs.Symbols.{Sending, rowsOf}
 use Rattle.psk.specs.Send.{wrongBytes, wrongPayload, alphabetSize, wrongDraws, wrongRows, senderFault, sendFault, sentIn, modulated}
-use Rattle.psk.specs.Accepted.{Ready, Call, AnsweredCalls}
+use Rattle.rows.specs.Accepted.{Ready}
+use Rattle.psk.specs.Accepted.{Call, AnsweredCalls}
 
 -- both alphabets have a point for each label
 alphabet-size : (bps : ℕ) → 1 ≤ bps → bps ≤ 2 → length (alphabet bps) ≡ 2 ^ bps

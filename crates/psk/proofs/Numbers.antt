@@ -16,7 +16,7 @@ use Rattle.dat.specs.Cells.{symbolsWhere, cellsOf, Cell, cellAt, byCarrier}
 use Rattle.dat.specs.Counts.{one, count-step, count-le, byCarrier-count, cells-count}
 use Rattle.dat.specs.Accepted.{Markers}
 use Rattle.dat.specs.AcceptedLaws.{row-in}
-use Rattle.psk.specs.Symbols.{IsCell, cellList, cellsBefore, cellNumber}
+use Rattle.rows.specs.Symbols.{IsCell, cellList, cellsBefore, cellNumber}
 
 -- ---- the symbols of which f holds
 -- entry k is a symbol of which f holds, and k of them are before it

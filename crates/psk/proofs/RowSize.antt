@@ -22,12 +22,12 @@ use Rattle.level.specs.Lengths.{rowLength}
 use Rattle.level.specs.SizedLaws.{sized}
 use Rattle.dat.specs.Tables.{badPhasor, wrongSize}
 use Rattle.dat.specs.AcceptedLaws.{row-in}
-use Rattle.psk.specs.Symbols.{Sending, leadPoint, leadSymbol, frameSymbol, inRows, rowSymbol, rowsOf}
+use Rattle.rows.specs.Symbols.{Sending, leadPoint, leadSymbol, frameSymbol, inRows, rowSymbol, rowsOf}
 use Rattle.psk.proofs.Turn.{point-turn}
 use Rattle.psk.proofs.SentStep.{running-turn}
 use Rattle.psk.proofs.Size.{symbol-within}
-use Rattle.psk.specs.Accepted.{Ready}
-use Rattle.psk.proofs.Places.{lead-drawn}
+use Rattle.rows.specs.Accepted.{Ready}
+use Rattle.rows.proofs.Places.{lead-drawn}
 
 -- both parts at most 2 ^ 8
 abbrev pub Small : Complex → Type 0

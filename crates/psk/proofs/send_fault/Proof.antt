@@ -9,7 +9,7 @@ use Rattle.refusal.specs.Outcome.{orElse}
 use Rattle.level.specs.declared.Layout.{Layout}
 use Rattle.level.specs.SizedLaws.{sized}
 use Rattle.dat.specs.Tables.{tableFault}
-use Rattle.psk.specs.Symbols.{Sending}
+use Rattle.rows.specs.Symbols.{Sending}
 use Rattle.psk.specs.Send.{senderFault, sendFault}
 use Rattle.psk.proofs.send_fault.Statement.{statement}
 use Rattle.psk.proofs.send_fault.Tie as tie

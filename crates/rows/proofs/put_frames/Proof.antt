@@ -1,16 +1,16 @@
--- `psk::put_frames` meets its contract: the frames before f are written. Assumes nothing.
+-- `rows::put_frames` meets its contract: the frames before f are written. Assumes nothing.
 use Prim.Native.Nat.{ℕ, _+_, _-_, _*_, _≤_}
 use mathlib.Core.Path.{_≡_, refl, ap, _∙_}
 use native.Mathlib.Nat.{le-of-lt}
 use native.Mathlib.Omega.{arith}
 use borrow.Author.Needs.{needs}
 use lib.ListN.{length}
-use Rattle.psk.specs.Symbols.{frameSymbol, inRows}
-use Rattle.psk.specs.Written.{written}
-use Rattle.psk.proofs.WrittenLaws.{written-length, written-same, rows-none, rows-step}
-use Rattle.psk.proofs.Places.{starts-small, frames-small, frame-ready}
-use Rattle.psk.proofs.put_frames.Statement.{statement}
-use Rattle.psk.proofs.put_frames.Tie as tie
+use Rattle.rows.specs.Symbols.{frameSymbol, inRows}
+use Rattle.rows.specs.Written.{written}
+use Rattle.rows.proofs.WrittenLaws.{written-length, written-same, rows-none, rows-step}
+use Rattle.rows.proofs.Places.{starts-small, frames-small, frame-ready}
+use Rattle.rows.proofs.put_frames.Statement.{statement}
+use Rattle.rows.proofs.put_frames.Tie as tie
 
 abbrev Inv-loop : tie.InvT-loop
 Inv-loop l markers phasors frames payload draws c rows₀ at f₀ rows f = (f ≤ frames) × (length rows ≡ length rows₀) × (rows ≡ written (inRows (l .nsym) (frameSymbol l markers phasors payload draws c)) at (f * l .nsym) rows₀)

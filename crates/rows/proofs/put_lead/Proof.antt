@@ -1,4 +1,4 @@
--- `psk::put_lead` meets its contract: the leads before k are written. Assumes nothing.
+-- `rows::put_lead` meets its contract: the leads before k are written. Assumes nothing.
 use Prim.Native.Nat.{ℕ, _+_, _-_, _*_, _<_, _≤_}
 use mathlib.Core.Path.{_≡_, refl, ap, _∙_}
 use mathlib.Core.List.{List}
@@ -14,13 +14,13 @@ use Rattle.level.specs.declared.Layout.{Layout}
 use Rattle.level.specs.Lengths.{rowLength}
 use Rattle.level.specs.SizedLaws.{sized}
 use Rattle.dat.specs.AcceptedLaws.{phasor-in}
-use Rattle.psk.specs.Symbols.{leadPoint, symbolOf, leadSymbol}
-use Rattle.psk.specs.Written.{written}
-use Rattle.psk.proofs.WrittenLaws.{written-none, written-step, written-length, written-same}
-use Rattle.psk.specs.Accepted.{LeadReady}
-use Rattle.psk.proofs.Places.{lead-drawn, draws-small, starts-small, phasors-small, row-room}
-use Rattle.psk.proofs.put_lead.Statement.{statement}
-use Rattle.psk.proofs.put_lead.Tie as tie
+use Rattle.rows.specs.Symbols.{leadPoint, symbolOf, leadSymbol}
+use Rattle.rows.specs.Written.{written}
+use Rattle.rows.proofs.WrittenLaws.{written-none, written-step, written-length, written-same}
+use Rattle.rows.specs.Accepted.{LeadReady}
+use Rattle.rows.proofs.Places.{lead-drawn, draws-small, starts-small, phasors-small, row-room}
+use Rattle.rows.proofs.put_lead.Statement.{statement}
+use Rattle.rows.proofs.put_lead.Tie as tie
 
 module _ (l : Layout) (phasors : List Float) (frames : ℕ) (draws : List ℕ) (c room : ℕ) (r : LeadReady l phasors frames draws c room) where
   place-small : {k : ℕ} → k < 8 → frames * l .nc + (k * l .nc + c) ≤ 156

@@ -1,4 +1,4 @@
--- `psk::put_row` meets its contract: the leads, the frames, and the zero. Assumes nothing.
+-- `rows::put_row` meets its contract: the leads, the frames, and the zero. Assumes nothing.
 use Prim.Native.Nat.{ℕ, _+_, _*_, _<_}
 use mathlib.Core.Path.{_≡_, refl, ap, _∙_}
 use mathlib.Core.List.{List}
@@ -12,14 +12,14 @@ use Rattle.complex.specs.Arithmetic.{czero}
 use Rattle.complex.specs.Pairs.{cset}
 use Rattle.level.specs.declared.Layout.{Layout}
 use Rattle.level.specs.Lengths.{rowLength}
-use Rattle.psk.specs.Symbols.{Sending, inRows, rowSymbol}
-use Rattle.psk.specs.Written.{written}
-use Rattle.psk.proofs.WrittenLaws.{written-length}
-use Rattle.psk.proofs.Rows.{lead, frame, row-written}
-use Rattle.psk.specs.Accepted.{Ready}
-use Rattle.psk.proofs.Places.{starts-small, frames-small, row-room, ready-still, lead-ready}
-use Rattle.psk.proofs.put_row.Statement.{statement}
-use Rattle.psk.proofs.put_row.Tie as tie
+use Rattle.rows.specs.Symbols.{Sending, inRows, rowSymbol}
+use Rattle.rows.specs.Written.{written}
+use Rattle.rows.proofs.WrittenLaws.{written-length}
+use Rattle.rows.proofs.Rows.{lead, frame, row-written}
+use Rattle.rows.specs.Accepted.{Ready}
+use Rattle.rows.proofs.Places.{starts-small, frames-small, row-room, ready-still, lead-ready}
+use Rattle.rows.proofs.put_row.Statement.{statement}
+use Rattle.rows.proofs.put_row.Tie as tie
 
 row-put : (l : Layout) (m : Sending) (c n : ℕ) (z : Complex) (xs ys zs ws : List Float) → ys ≡ written (lead l m c) (c * rowLength l (m .frames)) 8 xs
     → zs ≡ written (inRows (l .nsym) (frame l m c)) (c * rowLength l (m .frames) + 8) (m .frames * l .nsym) ys → n ≡ rowLength l (m .frames) → z ≡ czero

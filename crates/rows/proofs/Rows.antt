@@ -13,9 +13,9 @@ use Rattle.complex.specs.PairLaws.{parts-at}
 use Rattle.level.specs.declared.Layout.{Layout}
 use Rattle.level.specs.Lengths.{rowLength}
 use Rattle.dat.specs.AcceptedLaws.{row-in}
-use Rattle.psk.specs.Symbols.{Sending, leadSymbol, frameSymbol, inRows, rowSymbol, rowsOf}
-use Rattle.psk.specs.Written.{written}
-use Rattle.psk.proofs.WrittenLaws.{written-step, written-ext, written-join, written-all, in-row}
+use Rattle.rows.specs.Symbols.{Sending, leadSymbol, frameSymbol, inRows, rowSymbol, rowsOf}
+use Rattle.rows.specs.Written.{written}
+use Rattle.rows.proofs.WrittenLaws.{written-step, written-ext, written-join, written-all, in-row}
 
 module _ (l : Layout) (m : Sending) (c : ℕ) where
   abbrev pub lead : ℕ → Complex

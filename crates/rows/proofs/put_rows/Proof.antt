@@ -1,4 +1,4 @@
--- `psk::put_rows` meets its contract: the rows before that of carrier c are written. Assumes nothing.
+-- `rows::put_rows` meets its contract: the rows before that of carrier c are written. Assumes nothing.
 use Prim.Native.Nat.{ℕ, _+_, _-_, _*_, _≤_}
 use mathlib.Core.Path.{_≡_, refl, ap, _∙_}
 use mathlib.Core.List.{List}
@@ -8,14 +8,14 @@ use lib.ListN.{length}
 use lib.Ieee.{Float}
 use Rattle.level.specs.declared.Layout.{Layout}
 use Rattle.level.specs.Lengths.{rowLength}
-use Rattle.psk.specs.Symbols.{Sending, sending, inRows, rowSymbol, rowsOf}
-use Rattle.psk.specs.Written.{written}
-use Rattle.psk.proofs.WrittenLaws.{written-length, rows-none, rows-step}
-use Rattle.psk.proofs.Rows.{rows-written}
-use Rattle.psk.specs.Accepted.{Ready}
-use Rattle.psk.proofs.Places.{ready-still}
-use Rattle.psk.proofs.put_rows.Statement.{statement}
-use Rattle.psk.proofs.put_rows.Tie as tie
+use Rattle.rows.specs.Symbols.{Sending, sending, inRows, rowSymbol, rowsOf}
+use Rattle.rows.specs.Written.{written}
+use Rattle.rows.proofs.WrittenLaws.{written-length, rows-none, rows-step}
+use Rattle.rows.proofs.Rows.{rows-written}
+use Rattle.rows.specs.Accepted.{Ready}
+use Rattle.rows.proofs.Places.{ready-still}
+use Rattle.rows.proofs.put_rows.Statement.{statement}
+use Rattle.rows.proofs.put_rows.Tie as tie
 
 turn : (l : Layout) (m : Sending) (c : ℕ) (xs ys zs : List Float) → ys ≡ written (inRows (rowLength l (m .frames)) (rowSymbol l m)) 0 (c * rowLength l (m .frames)) xs
     → zs ≡ written (rowSymbol l m c) (c * rowLength l (m .frames)) (rowLength l (m .frames)) ys

@@ -1,11 +1,11 @@
--- `psk::advance` meets its contract: a marker, or a cell's bits. Assumes nothing.
+-- `rows::advance` meets its contract: a marker, or a cell's bits. Assumes nothing.
 use mathlib.Core.Path.{sym, _∙_}
 use native.Mathlib.Omega.{arith}
 use borrow.Author.Needs.{needs}
-use Rattle.psk.proofs.RunningLaws.{advanced-mark, advanced-cell}
-use Rattle.psk.proofs.Places.{label-in}
-use Rattle.psk.proofs.advance.Statement.{statement}
-use Rattle.psk.proofs.advance.Tie as tie
+use Rattle.rows.proofs.RunningLaws.{advanced-mark, advanced-cell}
+use Rattle.rows.proofs.Places.{label-in}
+use Rattle.rows.proofs.advance.Statement.{statement}
+use Rattle.rows.proofs.advance.Tie as tie
 
 is-mark-requires : tie.Need-is-mark-requires
 is-mark-requires c κs = let s = c .before .before in (s .pre .markers-ok, s .pre .carrier, s .pre .symbol)

@@ -13,8 +13,8 @@ use Rattle.complex.specs.Lists.{tabulate}
 use Rattle.complex.specs.ListLaws.{length-tabulate, getD-tabulate}
 use Rattle.complex.specs.Pairs.{cget, cset, parts, cfilled}
 use Rattle.complex.specs.PairLaws.{pairs-parts, length-parts, getD-pairs, cfilled-none, cfilled-step}
-use Rattle.psk.specs.Symbols.{inRows}
-use Rattle.psk.specs.Written.{written}
+use Rattle.rows.specs.Symbols.{inRows}
+use Rattle.rows.specs.Written.{written}
 
 -- before a loop, and a turn of it
 pub written-none : (f : ℕ → Complex) (at : ℕ) (xs : List Float) → xs ≡ written f at 0 xs

@@ -1,0 +1,4 @@
+pub mod WrittenLaws
+pub mod RunningLaws
+pub mod Rows
+pub mod Places

@@ -1,0 +1,4 @@
+pub mod Symbols
+pub mod Accepted
+pub mod Running
+pub mod Written
