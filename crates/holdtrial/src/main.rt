@@ -1,7 +1,7 @@
 // Reads a trial of the hold, and prints its releases or `bad` (01, "Beside the chain").
 use libc::STDIN_FILENO;
 use libc::STDOUT_FILENO;
-use trial::Scan;
+use scan::Scan;
 
 // After a read: more may come, the input has ended, or it couldn't be read.
 enum Next {
@@ -22,13 +22,13 @@ fn read_some(scan: Scan, row: &mut [u64]) -> Next {
         return Next::Ended(scan);
     }
     let n = io::count(got, &block);
-    Next::More(trial::scan_block(&block[..n], scan, row))
+    Next::More(scan::scan_block(&block[..n], scan, row))
 }
 
 // A proved loop has to end, and nothing says that an input does: it counts its turns down from a number that no run
 // uses up.
 fn read_all(row: &mut [u64]) -> Next {
-    let mut scan = trial::start();
+    let mut scan = scan::start();
     let mut turns = u64::MAX;
     while turns > 0 {
         let next = read_some(scan, row);

@@ -26,8 +26,8 @@ use Rattle.rx.specs.declared.FeedAnswer.the-variants as feed
 use Rattle.feed_fault.specs.Faults.{startFault}
 use Rattle.rx.specs.Open.{openedState}
 use Rattle.rx.specs.Feed.{Given, FedBy}
-use Rattle.numbers.specs.Numbers.{layoutNumbers, stateOf, numbersOf, metricOf, position, holdAt, holdNumbers, heldMetric}
-use Rattle.numbers.specs.Numbers.{LentRelease, releaseAfter}
+use Rattle.numbers.specs.Numbers.{layoutNumbers, stateOf, numbersOf, metricOf, position, holdAt, holdNumbers}
+use Rattle.numbers.specs.Numbers.{heldMetric, LentRelease, releaseAfter}
 
 -- ---- a layout
 -- 11: the lent numbers are not `count`

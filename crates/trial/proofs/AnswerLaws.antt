@@ -14,11 +14,12 @@ use Rattle.hold.specs.Offer.{freshHold}
 use Rattle.hold.specs.History.{Offer, Detection}
 use Rattle.hold.specs.Releases.{releases}
 use Rattle.trial.specs.declared.Ran.the-variants.{BadOffers, Rows}
-use Rattle.trial.specs.Words.{words}
-use Rattle.trial.specs.Trial.{Token, token, numberIn, Trial, trialOf, offersIn, line, report, bad, answer, printed}
-use Rattle.trial.specs.Scan.{tokensIn, ReadsTokens}
+use Rattle.scan.specs.Words.{words}
+use Rattle.scan.specs.Tokens.{Token, token}
+use Rattle.trial.specs.Trial.{numberIn, Trial, trialOf, offersIn, line, report, answer, printed}
+use Rattle.scan.specs.Scan.{tokensIn, ReadsTokens}
 use Rattle.trial.specs.Run.{trialWith, HeadIs, rowsOf, RunsOffers}
-use Rattle.trial.specs.Write.{rowLines, rowReport}
+use Rattle.report.specs.Write.{rowLines, rowReport, bad}
 
 -- ---- a row says what its releases say
 rows-length : (ds : List Detection) → length (rowsOf ds) ≡ 2 * length ds

@@ -1,8 +1,8 @@
 -- What is printed for a text that is read in blocks: `BlocksPrinted`. Assumes nothing.
 use mathlib.Core.List.{List}
 use Prim.Native.Nat.{ℕ}
-use Rattle.trial.specs.declared.Scan.{Scan}
-use Rattle.trial.specs.Scan.{Holds}
+use Rattle.scan.specs.declared.Scan.{Scan}
+use Rattle.scan.specs.Scan.{Holds}
 use Rattle.trial.specs.Blocks.{ReadInBlocks, none, more, BlocksPrinted}
 
 held : {text row : List ℕ} {scan : Scan} → ReadInBlocks text scan row → Holds text scan row

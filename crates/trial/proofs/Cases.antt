@@ -4,9 +4,10 @@ use mathlib.Core.List.{flatMap}
 use lib.Ieee.{lt, ofInt, toUnsigned}
 use Rattle.hold.specs.Offer.{blockNumber, atLeast, due, greater, taken, keeping, releasing, offeredAt, offered}
 use Rattle.hold.specs.Releases.{released, releases}
-use Rattle.trial.specs.Words.{separator, word, wordsFrom, words}
-use Rattle.trial.specs.Numbers.{digit, allDigits, valueAfter, lastDigits, decimal}
-use Rattle.trial.specs.Trial.{isDash, limited, token, numberIn, candidateIn, offersIn, trialOf, line, report, answer, printed}
+use Rattle.scan.specs.Words.{separator, word, wordsFrom, words}
+use Rattle.scan.specs.Numbers.{digit, allDigits, valueAfter, lastDigits, decimal}
+use Rattle.scan.specs.Tokens.{isDash, limited, token}
+use Rattle.trial.specs.Trial.{numberIn, candidateIn, offersIn, trialOf, line, report, answer, printed}
 use mathlib.Core.Option.{bind}
 use Rattle.trial.specs.Cases.{ExamplePrinted}
 

@@ -6,9 +6,9 @@ use Prim.Native.Nat.{ℕ, zero, suc, _+_, _-_, _*_, _/_, _%_, _≤_, _<_, _^_}
 use native.Mathlib.Omega.{arith}
 use lib.Dec.{ltb}
 use borrow.Author.Tests.{le-leb, ne-eqb, ltb-true, ltb-false}
-use Rattle.trial.specs.Numbers.{digit, allDigits, valueAfter, lastDigits, decimal}
-use Rattle.trial.specs.Trial.{number, isDash, token}
-use Rattle.trial.proofs.ScanLaws.{numeral, token-numeral, limited-small, digit-bounds}
+use Rattle.scan.specs.Numbers.{digit, allDigits, valueAfter, lastDigits, decimal}
+use Rattle.scan.specs.Tokens.{number, isDash, token}
+use Rattle.scan.proofs.ScanLaws.{numeral, token-numeral, limited-small, digit-bounds}
 
 no-digits : allDigits [] ≡ true
 unfolding allDigits

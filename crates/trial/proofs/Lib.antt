@@ -1,9 +1,7 @@
-pub mod ScanLaws
-pub mod BlockLaws
 pub mod Blocks
 pub mod RunLaws
 pub mod OffersLaws
-pub mod WriteLaws
+pub mod PrintLaws
 pub mod AnswerLaws
 pub mod DecimalBack
 pub mod Cases

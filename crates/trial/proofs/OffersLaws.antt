@@ -19,10 +19,11 @@ use Rattle.hold.specs.OfferLaws.{OfHeld, OfRelease, OfCandidate, Keeps, offered
 use Rattle.hold.specs.History.{Offer, Detection}
 use Rattle.hold.specs.Releases.{released, releases}
 use Rattle.trial.specs.declared.Ran.the-variants.{BadOffers, Rows}
-use Rattle.trial.specs.Trial.{Token, offersIn}
-use Rattle.trial.specs.Scan.{tokenIn, tokensIn}
+use Rattle.scan.specs.Tokens.{Token}
+use Rattle.trial.specs.Trial.{offersIn}
+use Rattle.scan.specs.Scan.{tokenIn, tokensIn}
 use Rattle.trial.specs.Run.{WholeCandidate, Small, Kept, BringsCandidate, rowsOf, Stores, RunsOffers}
-use Rattle.trial.proofs.ScanLaws.{drop-two}
+use Rattle.scan.proofs.ScanLaws.{drop-two}
 use Rattle.trial.proofs.RunLaws.{numberIn-small, numberIn-above, brings-nothing}
 
 -- ---- the hold

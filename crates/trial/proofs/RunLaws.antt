@@ -18,9 +18,10 @@ use Rattle.hold.specs.declared.Candidate.the-variants.{NoCandidate, Metric}
 use Rattle.hold.specs.declared.Release.{Release}
 use Rattle.hold.specs.declared.Release.the-variants.{NoRelease, Released}
 use Rattle.hold.specs.Releases.{released}
-use Rattle.trial.specs.Trial.{dash, other, numberIn, wholeMetric, candidateIn, offersIn, trialOf}
-use Rattle.trial.specs.Scan.{tokenIn, tokensIn}
-use Rattle.trial.proofs.ScanLaws.{tokenIn-small}
+use Rattle.scan.specs.Tokens.{dash, other}
+use Rattle.trial.specs.Trial.{numberIn, wholeMetric, candidateIn, offersIn, trialOf}
+use Rattle.scan.specs.Scan.{tokenIn, tokensIn}
+use Rattle.scan.proofs.ScanLaws.{tokenIn-small}
 use Rattle.trial.specs.Run.{trialWith, HeadIs, Whole, BringsCandidate, rowsOf, Stores}
 
 -- ---- numbers

@@ -3,9 +3,9 @@ use mathlib.Core.Path.{_≡_}
 use mathlib.Core.List.{List, [], _++_}
 use Prim.Native.Nat.{ℕ}
 use lib.ListN.{length}
-use Rattle.trial.specs.declared.Scan.{Scan}
-use Rattle.trial.specs.Write.{Prints}
-use Rattle.trial.specs.Scan.{Holds, Continues, Answers}
+use Rattle.scan.specs.declared.Scan.{Scan}
+use Rattle.scan.specs.Scan.{Holds, Continues}
+use Rattle.trial.specs.Prints.{Prints, Answers}
 
 -- from the start, block after block, each by a call of `scan_block`
 pub data ReadInBlocks : List ℕ → Scan → List ℕ → Type 0 where

@@ -18,7 +18,7 @@ use Rattle.trial.specs.declared.Head.the-variants.{BadHead, Numbers}
 use Rattle.trial.specs.declared.Ran.{Ran}
 use Rattle.trial.specs.declared.Ran.the-variants.{BadOffers, Rows}
 use Rattle.trial.specs.Trial.{candidateIn, offersIn, wholeMetric, Trial, trialOf}
-use Rattle.trial.specs.Scan.{tokenIn, tokensIn}
+use Rattle.scan.specs.Scan.{tokenIn, tokensIn}
 
 -- ---- the head
 abbrev pub trialWith : ℕ → ℕ → List Offer → Trial

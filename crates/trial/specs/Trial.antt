@@ -1,8 +1,8 @@
 -- What `holdtrial` prints for a text (01, "Beside the chain"). Definitions only.
-use mathlib.Core.Bool.{Bool, false, cond, _&&_}
+use mathlib.Core.Bool.{cond, _&&_}
 use mathlib.Core.List.{List, [], _∷_, _++_, map, flatMap}
 use mathlib.Core.Option.{Option, none, some, Option·map, bind}
-use Prim.Native.Nat.{ℕ, _*_, _^_}
+use Prim.Native.Nat.{ℕ, _*_}
 use lib.Dec.{leb, eqb}
 use lib.ListN.{length}
 use lib.IntN.{pos}
@@ -12,26 +12,10 @@ use Rattle.hold.specs.declared.Candidate.the-variants.{NoCandidate, Metric}
 use Rattle.hold.specs.Offer.{freshHold}
 use Rattle.hold.specs.History.{Offer, Detection}
 use Rattle.hold.specs.Releases.{releases}
-use Rattle.trial.specs.Words.{words}
-use Rattle.trial.specs.Numbers.{allDigits, valueAfter, decimal}
-
--- a word of the input: a whole number of at most 2^48, "-", or anything else
-pub data Token : Type 0 where
-  number : ℕ → Token
-  dash : Token
-  other : Token
-
-unfoldable pub isDash : List ℕ → Bool
-isDash [] = false
-isDash (b ∷ []) = eqb b 45
-isDash (b ∷ c ∷ w) = false
-
--- "a number above 2^48" is none of the form
-unfoldable pub limited : ℕ → Token
-limited n = cond (leb n (2 ^ 48)) (number n) other
-
-unfoldable pub token : List ℕ → Token
-token w = cond (isDash w) dash (cond (allDigits w) (limited (valueAfter 0 w)) other)
+use Rattle.scan.specs.Words.{words}
+use Rattle.scan.specs.Numbers.{decimal}
+use Rattle.scan.specs.Tokens.{Token, number, dash, other, token}
+use Rattle.report.specs.Write.{bad}
 
 unfoldable pub numberIn : Token → Option ℕ
 numberIn (number n) = some n
@@ -82,10 +66,6 @@ line d = decimal (d .position .0) ++ (32 ∷ decimal (toUnsigned 64 (d .metric))
 -- "It prints the count of releases, then position and metric of each."
 unfoldable pub report : List Detection → List ℕ
 report ds = decimal (length ds) ++ (10 ∷ flatMap line ds)
-
--- "bad", on a line
-unfoldable pub bad : List ℕ
-bad = 98 ∷ 97 ∷ 100 ∷ 10 ∷ []
 
 -- "Any other form, over 1,000 offers or a number above 2^48 prints `bad`."
 unfoldable pub answer : Option Trial → List ℕ

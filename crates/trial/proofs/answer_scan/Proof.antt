@@ -4,7 +4,7 @@ use native.Mathlib.Omega.{arith}
 use borrow.Author.Needs.{needs}
 use lib.ListN.{length, take}
 use lib.Seq.{length-take-le}
-use Rattle.trial.proofs.WriteLaws.{prints}
+use Rattle.trial.proofs.PrintLaws.{prints}
 use Rattle.trial.proofs.AnswerLaws.{printed-too-many, printed-read}
 use Rattle.trial.proofs.answer_scan.Statement.{statement}
 use Rattle.trial.proofs.answer_scan.Tie as tie

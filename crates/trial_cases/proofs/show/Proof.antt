@@ -1,6 +1,6 @@
 -- `trial_cases::show` meets its contract: what it writes is a part of the buffer. Assumes nothing.
 use borrow.Author.Needs.{needs}
-use Rattle.trial.proofs.WriteLaws.{prints-taken, prints-within}
+use Rattle.trial.proofs.PrintLaws.{prints-taken, prints-within}
 use Rattle.trial_cases.proofs.show.Statement.{statement}
 use Rattle.trial_cases.proofs.show.Tie as tie
 
