@@ -1,6 +1,6 @@
 -- What a call answers and leaves, and the table that it writes. Assumes nothing.
 use Prim.Native.Nat.{ℕ, _+_, _-_, _*_, _≤_}
-use mathlib.Core.Path.{_≡_, refl, ap, _∙_}
+use mathlib.Core.Path.{_≡_, refl, sym, ap, _∙_}
 use mathlib.Core.Bool.{false}
 use mathlib.Core.List.{List, [], _++_, append-nil}
 use native.Mathlib.Nat.{mul-add}
@@ -8,6 +8,7 @@ use native.Mathlib.Omega.{arith}
 use lib.ListN.{length, take, drop, length-take, length-drop, drop-of-length-le}
 use lib.Seq.{take-at, drop-at}
 use Rattle.refusal.specs.declared.Refusal.{Refusal}
+use Rattle.refusal.specs.declared.Refusal.the-variants.{DrawsSpent}
 use Rattle.refusal.specs.declared.Fault.{Fault}
 use Rattle.refusal.specs.declared.Fault.the-variants.{Clear}
 use Rattle.refusal.specs.Clear.{clear-first}
@@ -18,8 +19,9 @@ use Rattle.refusal.specs.Outcome.{Outcome, refused, answered, judged}
 use Rattle.level.specs.declared.Layout.{Layout}
 use Rattle.dat.specs.Tables.{wrongLength}
 use Rattle.dat.specs.AcceptedLaws.{length-is}
-use Rattle.draw.specs.Draw.{drawnRows, flagRows, tableOf}
-use Rattle.draw.specs.Call.{Made, wrongDraw, drawFault, drawnTable, madeBy, Drawing}
+use Rattle.draw.specs.declared.Rows.{Rows}
+use Rattle.draw.specs.Draw.{drawnRows, flagRows, tableOf, rowsOutcome}
+use Rattle.draw.specs.Call.{Made, wrongDraw, drawFault, drawnTable, madeBy, Drawing, Finished}
 use Rattle.draw.proofs.RowLaws.{at}
 
 pub drawing-refused : (made : Outcome Made) (state : ℕ) (out : List ℕ) (r : Refusal) → made ≡ refused (numberOf r)
@@ -40,6 +42,20 @@ module _ (l : Layout) (limit state : ℕ) where
   pub table-refused : (k : ℕ) → refused k ≡ drawnRows l limit state (l .nc) → drawnTable l limit state ≡ refused k
   unfolding drawnTable
   table-refused k e = rw (← e) refl
+
+  -- what the rows leave is what the call leaves
+  pub drawing-finished : (rows : Rows) (values out : List ℕ) (r : Answer) (state-then : ℕ) (out-then : List ℕ)
+      → rowsOutcome rows values ≡ drawnRows l limit state (l .nc)
+      → Finished l rows values state out r state-then out-then
+      → Drawing (drawnTable l limit state) state out r state-then out-then
+  drawing-finished rows values out (Refused r) state-then out-then e f =
+      let spent : refused (numberOf DrawsSpent) ≡ drawnRows l limit state (l .nc) =
+      ap (λ (rows : Rows). rowsOutcome rows values) (sym (f .0)) ∙ e in
+      rw (f .1, f .2, f .3) (drawing-refused _ state out DrawsSpent (table-refused _ spent))
+  drawing-finished rows values out Done state-then out-then e f =
+      let all : answered (at values state-then) ≡ drawnRows l limit state (l .nc) =
+      ap (λ (rows : Rows). rowsOutcome rows values) (sym (f .0)) ∙ e in
+      drawing-done _ state state-then out out-then (table-drawn values out-then state-then all (f .1))
 
 -- ---- the table's two parts
 module _ (l : Layout) (out : List ℕ) (h : wrongLength l out ≡ false) where

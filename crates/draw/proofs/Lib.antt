@@ -1,4 +1,5 @@
 pub mod RowLaws
 pub mod RowsLaws
+pub mod FlagLaws
 pub mod CallLaws
 pub mod Accepted

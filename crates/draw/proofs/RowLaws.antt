@@ -30,12 +30,12 @@ at values state = record { values = values; state = state }
 pub Reached : Layout → ℕ → ℕ → List ℕ → ℕ → ℕ → Type 0
 Reached l state n row k s = rowAfter l state n ≡ at (take k row) s
 
-has-first : (row : List ℕ) (k v : ℕ) → k ≤ length row → any (λ j. eqb (getD row (0 + j) 0) v) k ≡ has (take k row) v
+has-first : (row : List ℕ) (k v : ℕ) → k ≤ length row → any (λ j. eqb (getD row j 0) v) k ≡ has (take k row) v
 unfolding has
 has-first row k v h =
     let e : length (take k row) ≡ k = simp length-take (omega arith) in
-    rw e (any-ext (λ j. eqb (getD row (0 + j) 0) v) (λ j. eqb (getD (take k row) j 0) v) k (λ j J. ap
-    (λ (x : ℕ). eqb x v) (ap (λ (i : ℕ). getD row i 0) (omega arith) ∙ sym (getD-take k row j 0 J))))
+    rw e (any-ext (λ j. eqb (getD row j 0) v) (λ j. eqb (getD (take k row) j 0) v) k (λ j J. ap
+    (λ (x : ℕ). eqb x v) (sym (getD-take k row j 0 J))))
 
 module _ (l : Layout) (state : ℕ) where
   pub reached-none : (row : List ℕ) (n : ℕ) → n ≡ 0 → Reached l state n row 0 state
@@ -57,7 +57,7 @@ module _ (l : Layout) (state : ℕ) where
     next = rw (r, still-missing) refl
 
     module _ (d : Drawn) (e : d ≡ drawn s (l .spf - 8)) (b : Bool)
-        (f : b ≡ any (λ j. eqb (getD row (0 + j) 0) (5 + d .value)) k) (m : ℕ) (g : m ≡ suc n) where
+        (f : b ≡ any (λ j. eqb (getD row j 0) (5 + d .value)) k) (m : ℕ) (g : m ≡ suc n) where
       value-is : d .value ≡ draw s (l .spf - 8)
       unfolding drawn
       value-is = ap (λ (d : Drawn). d .value) e

@@ -4,13 +4,16 @@ use mathlib.Core.Path.{_≡_}
 use mathlib.Core.Bool.{Bool, _||_}
 use mathlib.Core.List.{List, [], _∷_}
 use lib.Dec.{ltb, leb}
-use Rattle.refusal.specs.declared.Refusal.the-variants.{DrawState, Buffer}
+use Rattle.refusal.specs.declared.Refusal.the-variants.{DrawState, Buffer, DrawsSpent}
 use Rattle.refusal.specs.declared.Fault.{Fault}
 use Rattle.refusal.specs.declared.Answer.{Answer}
+use Rattle.refusal.specs.declared.Answer.the-variants.{Done, Refused}
 use Rattle.refusal.specs.Outcome.{Outcome, answered, andThen, done, after, outcome, firstFault, judged}
 use Rattle.level.specs.declared.Layout.{Layout}
 use Rattle.level.specs.Layout.{chosen}
 use Rattle.dat.specs.Tables.{wrongLength, MarkersAccepted}
+use Rattle.draw.specs.declared.Rows.{Rows}
+use Rattle.draw.specs.declared.Rows.the-variants.{Drawn, Spent}
 use Rattle.draw.specs.Draw.{drawnRows, tableOf}
 
 -- 29: "a state above 24 bits or a draw limit outside its range", which is "1 to 4,096 for each row"
@@ -45,6 +48,12 @@ pub record Drawing (made : Outcome Made) (state : ℕ) (out : List ℕ) (r : Ans
   -- "The state after the last draw comes back too."; "A refusal gives the generator's state back unaltered."
   pub state-is : state-then ≡ after made (λ m. m .state) state
   pub out-is : out-then ≡ after made (λ m. m .table) out
+
+-- what the rows of all carriers leave, by the answer: the table and the state after them, or both as they were
+abbrev pub Finished : Layout → Rows → List ℕ → ℕ → List ℕ → Answer → ℕ → List ℕ → Type 0
+Finished l rows values state out (Refused r) state-then out-then =
+    (rows ≡ Spent) × (r ≡ DrawsSpent) × (state-then ≡ state) × (out-then ≡ out)
+Finished l rows values state out Done state-then out-then = (rows ≡ Drawn state-then) × (out-then ≡ tableOf l values)
 
 abbrev pub DrawMarkers : ℕ → ℕ → ℕ → ℕ → List ℕ → Answer → ℕ → List ℕ → Type 0
 DrawMarkers bandwidth rec state limit out = Drawing (madeBy (chosen bandwidth rec) state limit out) state out

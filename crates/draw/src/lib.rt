@@ -1,6 +1,6 @@
 // Marker tables drawn on board (02, "Markers drawn on board"; the PSK branch of `psk_other` in dat.rs).
 ghost use mathlib.Core.Path.{_≡_};
-ghost use mathlib.Core.Bool.{false};
+ghost use mathlib.Core.Bool.{false, cond};
 ghost use Prim.Native.Nat.{_+_, _*_, _<_, _≤_};
 ghost use lib.Dec.{eqb};
 ghost use lib.ListN.{length, getD};
@@ -10,7 +10,7 @@ ghost use Rattle.complex.specs.Lists.{tabulate};
 ghost use Rattle.level.specs.Sized.{Sized};
 ghost use Rattle.draw.specs.Draw.{drawnRow, drawnRows, flagOf, flagRows, tableOf, rowsOutcome};
 ghost use Rattle.dat.specs.Tables.{wrongLength};
-ghost use Rattle.draw.specs.Call.{wrongDraw, drawFault, drawnTable, madeBy, Drawing, DrawMarkers};
+ghost use Rattle.draw.specs.Call.{wrongDraw, drawFault, drawnTable, madeBy, Finished, Drawing, DrawMarkers};
 use level::Chosen;
 use level::Layout;
 use refusal::Answer;
@@ -23,14 +23,14 @@ enum Rows {
     Spent,
 }
 
-// Whether one of the `count` values from `from` on is v.
-fn has_value(values: &[u16], from: usize, count: usize, v: u16) -> bool
-    requires { ⌜ from + count ≤ length (now values) ⌝ }
-    ensures { λ r. ⌜ r ≡ any (λ k. eqb (getD (now (values .entry)) (from + k) 0) v) count ⌝ }
+// Whether one of the first `count` values is v.
+fn has_value(values: &[u16], count: usize, v: u16) -> bool
+    requires { ⌜ count ≤ length (now values) ⌝ }
+    ensures { λ r. ⌜ r ≡ any (λ k. eqb (getD (now (values .entry)) k 0) v) count ⌝ }
 {
     let mut k = 0;
     while k < count {
-        if values[from + k] == v {
+        if values[k] == v {
             return true;
         }
         k += 1;
@@ -56,7 +56,7 @@ fn draw_row(l: Layout, state: u32, limit: u32, row: &mut [u16]) -> Rows
             let drawn = rnd::draw(s, m);
             s = drawn.state;
             let v = (5 + drawn.value) as u16;
-            if !has_value(row, 0, k, v) {
+            if !has_value(row, k, v) {
                 break v;
             }
         };
@@ -88,16 +88,40 @@ fn draw_rows(l: Layout, state: u32, limit: u32, values: &mut [u16]) -> Rows
     Rows::Drawn(s)
 }
 
+fn clear(row: &mut [u16])
+    ensures { λ _. ⌜ now (row .exit) ≡ tabulate (λ j. 0) (length (now (row .entry))) ⌝ }
+{
+    let mut j = 0;
+    while j < row.len() {
+        row[j] = 0;
+        j += 1;
+    }
+}
+
+// Sets the flag of symbol v, where the row has one.
+fn set_flag(v: usize, row: &mut [u16])
+    ensures { λ _. ⌜ now (row .exit) ≡ tabulate (λ j. cond (eqb v (j + 2)) 1 (getD (now (row .entry)) j 0))
+        (length (now (row .entry))) ⌝ }
+{
+    if v < 2 {
+        return;
+    }
+    if v - 2 < row.len() {
+        row[v - 2] = 1;
+    }
+}
+
 // The flags of carrier c: 1 at the symbols that its values mark.
 fn flag_row(l: Layout, values: &[u16], c: usize, row: &mut [u16])
     requires { ⌜ Sized l × (length (now values) ≡ l .nc * l .markers) × (c < l .nc) × (length (now row) ≡ l .nsym) ⌝ }
     ensures { λ _. ⌜ now (row .exit) ≡ tabulate (flagOf l (now (values .entry)) c) (l .nsym) ⌝ }
 {
+    clear(row);
     let from = c * l.markers;
-    let mut j = 0;
-    while j < l.nsym {
-        row[j] = has_value(values, from, l.markers, (j + 2) as u16) as u16;
-        j += 1;
+    let mut k = 0;
+    while k < l.markers {
+        set_flag(values[from + k] as usize, row);
+        k += 1;
     }
 }
 
@@ -162,13 +186,12 @@ fn draw_fault(l: Layout, state: u32, limit: u32, out: &[u16]) -> Fault
     Fault::Clear
 }
 
-// Draws all values before the table is touched, so that a spent row leaves everything as it was.
-fn draw_table(l: Layout, state: &mut u32, limit: u32, values: &mut [u16], out: &mut [u16]) -> Answer
+// What the rows come to: their table and the state after them, or a refusal that leaves both as they were.
+fn finish(l: Layout, rows: Rows, values: &[u16], state: &mut u32, out: &mut [u16]) -> Answer
     requires { ⌜ Sized l × (length (now values) ≡ l .nc * l .markers) × (wrongLength l (now out) ≡ false) ⌝ }
-    ensures { λ r. ⌜ Drawing (drawnTable l limit (now (state .entry))) (now (state .entry)) (now (out .entry)) r
+    ensures { λ r. ⌜ Finished l rows (now (values .entry)) (now (state .entry)) (now (out .entry)) r
         (now (state .exit)) (now (out .exit)) ⌝ }
 {
-    let rows = draw_rows(l, *state, limit, values);
     match rows {
         Rows::Spent => Answer::Refused(Refusal::DrawsSpent),
         Rows::Drawn(last) => {
@@ -177,6 +200,16 @@ fn draw_table(l: Layout, state: &mut u32, limit: u32, values: &mut [u16], out: &
             Answer::Done
         }
     }
+}
+
+// Draws all values before the table is touched, so that a spent row leaves everything as it was.
+fn draw_table(l: Layout, state: &mut u32, limit: u32, values: &mut [u16], out: &mut [u16]) -> Answer
+    requires { ⌜ Sized l × (length (now values) ≡ l .nc * l .markers) × (wrongLength l (now out) ≡ false) ⌝ }
+    ensures { λ r. ⌜ Drawing (drawnTable l limit (now (state .entry))) (now (state .entry)) (now (out .entry)) r
+        (now (state .exit)) (now (out .exit)) ⌝ }
+{
+    let rows = draw_rows(l, *state, limit, values);
+    finish(l, rows, values, state, out)
 }
 
 fn layout_markers(l: Layout, state: &mut u32, limit: u32, out: &mut [u16]) -> Answer

@@ -1,54 +1,26 @@
--- `draw::draw_table` meets its contract: a spent row's refusal, or the table and the state. Assumes nothing.
-use mathlib.Core.Path.{sym, ap, _∙_}
-use Rattle.draw.specs.declared.Rows.{Rows}
-use Rattle.draw.specs.Draw.{rowsOutcome}
-use Rattle.draw.proofs.CallLaws.{drawing-refused, drawing-done, table-refused, table-drawn}
-use borrow.Author.Needs.{needs}
+-- `draw::draw_table` meets its contract: what the rows leave. Assumes nothing.
+use Rattle.draw.proofs.CallLaws.{drawing-finished}
+use mathlib.Core.Path.{_∙_}
 use Rattle.draw.proofs.draw_table.Statement.{statement}
 use Rattle.draw.proofs.draw_table.Tie as tie
 
 draw-rows-requires : tie.Need-draw-rows-requires
-draw-rows-requires c κs = search needs
+draw-rows-requires c κs = let s = c .before .before .before .before in (s .pre .0, s .pre .1)
 
-enum-told : tie.Need-enum-told
-enum-told c = search needs
-
-enum-known-rows : tie.Need-enum-known-rows
-enum-known-rows c = search needs
-
-write-table-requires : tie.Need-write-table-requires
-write-table-requires c κs = search needs
+finish-requires : tie.Need-finish-requires
+finish-requires c κs =
+    let s = c .before .before .before .before .before .before .before .before .before .before in
+    (s .pre .0, c .before .before .before .before .before .draw-rows .kept .1 .1 .1 .0 ∙ s .pre .1, s .pre .2)
 
 same-length : tie.Need-same-length
-same-length c = search needs
-
-returns : tie.Need-returns
-returns c =
-    let d = c .before .before .before .before .draw-rows in
-    drawing-refused _ _ _ _ (table-refused _ _ _ _ (ap (λ (r : Rows). rowsOutcome r (d .last .1 .1 .1 .0)) (sym (c .enum-told .given .1)) ∙ d .ensures))
+same-length c = c .before .before .before .before .before .before .before .before .draw-rows .kept .1 .1 .1 .0
 
 same-length-2 : tie.Need-same-length-2
-same-length-2 c = search needs
+same-length-2 c = c .before .before .finish .kept .1 .1 .1 .1 .0
 
-same-length-3 : tie.Need-same-length-3
-same-length-3 c = search needs
-
-returns-2 : tie.Need-returns-2
-returns-2 c =
-    let d = c .before .before .before .before .before .before .before .before .before .before .draw-rows in
-    drawing-done _ _ _ _ _ (table-drawn _ _ _ _ _ _ (ap (λ (r : Rows). rowsOutcome r (d .last .1 .1 .1 .0)) (sym (c .before .before .before .before .before .before .rows .given .1)) ∙ d .ensures)
-    (c .before .before .write-table .ensures))
+returns : tie.Need-returns
+returns c = drawing-finished _ _ _ _ _ _ _ _ _ (c .before .before .before .before .before .before .before .before .draw-rows .ensures) (c .before .before .finish .ensures)
 
 pub draw-table-spec : {M : Type 1} → statement M
 draw-table-spec =
-    tie.close
-    (tie.spec
-    draw-rows-requires
-    enum-told
-    enum-known-rows
-    write-table-requires
-    same-length
-    returns
-    same-length-2
-    same-length-3
-    returns-2)
+    tie.close (tie.spec draw-rows-requires finish-requires same-length same-length-2 returns)

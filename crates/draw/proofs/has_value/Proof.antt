@@ -1,5 +1,5 @@
 -- `draw::has_value` meets its contract: none of the values passed is v. Assumes nothing.
-use Prim.Native.Nat.{_+_, _-_, _≤_}
+use Prim.Native.Nat.{_-_, _≤_}
 use mathlib.Core.Path.{_≡_, sym}
 use mathlib.Core.Bool.{false}
 use native.Mathlib.Omega.{arith}
@@ -12,16 +12,13 @@ use Rattle.draw.proofs.has_value.Statement.{statement}
 use Rattle.draw.proofs.has_value.Tie as tie
 
 abbrev Inv-loop : tie.InvT-loop
-Inv-loop values from count v k₀ k = (k ≤ count) × (any (λ k. eqb (getD values (from + k) 0) v) k ≡ false)
+Inv-loop values count v k₀ k = (k ≤ count) × (any (λ k. eqb (getD values k 0) v) k ≡ false)
 
 abbrev μ-loop : tie.MeasureT-loop
-μ-loop values from count v k₀ k = count - k
+μ-loop values count v k₀ k = count - k
 
 loop-holds : tie.Need-loop-holds Inv-loop μ-loop
 loop-holds c = (omega arith, any-none _)
-
-add-if1 : tie.Need-add-if1 Inv-loop μ-loop
-add-if1 c = omega arith
 
 mul-if1 : tie.Need-mul-if1 Inv-loop μ-loop
 mul-if1 c = omega arith
@@ -51,7 +48,6 @@ has-value-spec =
     Inv-loop
     μ-loop
     loop-holds
-    add-if1
     mul-if1
     shared-slice-read-if1
     returns

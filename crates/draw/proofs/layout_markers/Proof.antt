@@ -5,12 +5,13 @@ use Rattle.refusal.specs.declared.Fault.{Fault}
 use Rattle.refusal.specs.Outcome.{judged}
 use Rattle.draw.specs.Call.{drawnTable}
 use Rattle.draw.proofs.CallLaws.{drawing-refused, fault-clear, judged-clear, values-length}
+use native.Mathlib.Omega.{arith}
 use borrow.Author.Needs.{needs}
 use Rattle.draw.proofs.layout_markers.Statement.{statement}
 use Rattle.draw.proofs.layout_markers.Tie as tie
 
 draw-fault-requires : tie.Need-draw-fault-requires
-draw-fault-requires c κs = search needs
+draw-fault-requires c κs = c .before .before .before .pre
 
 enum-known-fault : tie.Need-enum-known-fault
 enum-known-fault c = search needs
@@ -19,16 +20,16 @@ enum-told : tie.Need-enum-told
 enum-told c = search needs
 
 mul-count : tie.Need-mul-count
-mul-count c = search needs
+mul-count c = omega arith
 
 sub-draw-table : tie.Need-sub-draw-table
-sub-draw-table c = search needs
+sub-draw-table c = omega arith
 
 part-values-start : tie.Need-part-values-start
-part-values-start c = search needs
+part-values-start c = omega arith
 
 part-values-end : tie.Need-part-values-end
-part-values-end c = search needs
+part-values-end c = omega arith
 
 draw-table-requires : tie.Need-draw-table-requires
 draw-table-requires c κs =

@@ -1,5 +1,4 @@
 -- `draw::write_table` meets its contract: the values, and then the flags. Assumes nothing.
-use native.Mathlib.Omega.{arith}
 use Rattle.draw.proofs.CallLaws.{table-length, flags-length, written}
 use native.Mathlib.Omega.{arith}
 use borrow.Author.Needs.{needs}
@@ -7,13 +6,13 @@ use Rattle.draw.proofs.write_table.Statement.{statement}
 use Rattle.draw.proofs.write_table.Tie as tie
 
 mul-count : tie.Need-mul-count
-mul-count c = search needs
+mul-count c = omega arith
 
 sub-copy : tie.Need-sub-copy
-sub-copy c = search needs
+sub-copy c = omega arith
 
 part-copy-start : tie.Need-part-copy-start
-part-copy-start c = search needs
+part-copy-start c = omega arith
 
 part-copy-end : tie.Need-part-copy-end
 part-copy-end c = omega (arith, table-length (c .before .before .before .args .l) (c .before .before .before .args .out .now) (c .before .before .before .pre .2))
@@ -22,7 +21,7 @@ copy-requires : tie.Need-copy-requires
 copy-requires c κs = search needs
 
 mul-flag-rows : tie.Need-mul-flag-rows
-mul-flag-rows c = search needs
+mul-flag-rows c = omega arith
 
 sub-flag-rows : tie.Need-sub-flag-rows
 sub-flag-rows c = omega (arith, table-length (c .before .before .before .before .before .before .before .args .l) (c .before .before .before .before .before .before .before .args .out .now) (c .before .before .before .before .before .before .before .pre .2))
@@ -31,7 +30,7 @@ part-flag-rows-start : tie.Need-part-flag-rows-start
 part-flag-rows-start c = omega (arith, table-length (c .before .before .before .before .before .before .before .args .l) (c .before .before .before .before .before .before .before .args .out .now) (c .before .before .before .before .before .before .before .pre .2))
 
 part-flag-rows-end : tie.Need-part-flag-rows-end
-part-flag-rows-end c = search needs
+part-flag-rows-end c = omega arith
 
 flag-rows-requires : tie.Need-flag-rows-requires
 flag-rows-requires c κs =
