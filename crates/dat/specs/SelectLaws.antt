@@ -1,11 +1,11 @@
 -- Loops that gather symbols into a slice, and `thin` as one formula. Assumes nothing.
-use Prim.Native.Nat.{ℕ, suc, _+_, _*_, _/_, _<_, _≤_, zero-le}
+use Prim.Native.Nat.{ℕ, suc, _+_, _-_, _*_, _/_, _<_, _≤_, zero-le}
 use mathlib.Core.Path.{_≡_, refl, sym, ap, ap₂, _∙_}
 use mathlib.Core.Logic.{⊎-elim}
 use mathlib.Core.Bool.{Bool, true, false, cond}
 use mathlib.Core.List.{List, [], _∷_, _++_, append-assoc, append-nil}
-use native.Mathlib.Nat.{le-of-eq, lt-of-le-of-lt, lt-of-lt-of-le, eq-or-lt-of-le, mul-comm, mul-le-mul}
-use native.Mathlib.Nat.{mul-lt-mul-of-pos-right, mul-div-cancel, div-lt-iff-lt-mul}
+use native.Mathlib.Nat.{le-of-eq, lt-of-le-of-lt, lt-of-lt-of-le, eq-or-lt-of-le, mul-comm}
+use native.Mathlib.Nat.{mul-lt-mul-of-pos-right, mul-div-cancel, div-lt-iff-lt-mul, div-eq-of-lt-le, suc-mul, add-mul}
 use native.Mathlib.Numerals.{add-one}
 use native.Mathlib.Omega.{arith}
 use lib.ListN.{length, getD, drop, set, length-append, length-drop, drop-of-length-le}
@@ -104,5 +104,28 @@ thin-in i len most I h =
     div-lt-iff-lt-mul (lt-of-le-of-lt zero-le I) .1 (lt-of-lt-of-le
     (mul-lt-mul-of-pos-right I (lt-of-lt-of-le (lt-of-le-of-lt zero-le I) h)) (le-of-eq (mul-comm most len)))
 
-pub thin-small : (i len most : ℕ) → i < most → most ≤ len → len ≤ 450 → i * len ≤ 450 * 450
-thin-small i len most I h l = mul-le-mul {n₂ = 450} (omega arith) l
+-- ---- i × len / most, carried along as quotient and remainder
+pub carried-is : (v at rest most : ℕ) → v ≡ at * most + rest → rest < most → at ≡ v / most
+carried-is v at rest most e r =
+    let s : (at + 1) * most ≡ at * most + most = rw (add-one at) (suc-mul at most) in
+    sym (div-eq-of-lt-le most (omega arith) (omega arith))
+
+-- what one entry more adds to both
+pub carried-next : (i len most whole part at rest : ℕ) → whole * most + part ≡ len → i * len ≡ at * most + rest
+    → (i + 1) * len ≡ (at + whole) * most + (rest + part)
+carried-next i len most whole part at rest d e =
+    let s : (i + 1) * len ≡ i * len + len = rw (add-one i) (suc-mul i len) in
+    let q = add-mul at whole most in
+    omega arith
+
+-- a remainder that isn't below the divisor
+pub carried-over : (v at rest most : ℕ) → v ≡ at * most + rest → most ≤ rest → v ≡ (at + 1) * most + (rest - most)
+carried-over v at rest most e r =
+    let s : (at + 1) * most ≡ at * most + most = rw (add-one at) (suc-mul at most) in
+    omega arith
+
+-- the place that an entry reads
+pub carried-in : (i len most at rest : ℕ) → i * len ≡ at * most + rest → rest < most → i < most → most ≤ len
+    → at < len
+carried-in i len most at rest e r I h =
+    lt-of-le-of-lt (le-of-eq (carried-is (i * len) at rest most e r)) (thin-in i len most I h)

@@ -98,18 +98,20 @@ fn bad_flag(l: Layout, table: &[u16], c: usize, set: &[u16], j: usize) -> bool
     table[l.nc * l.markers + (c * l.nsym + j)] != set[j + 2]
 }
 
+// Looks at every flag, with no branch: flags are many and seldom bad.
 fn bad_flags(l: Layout, table: &[u16], c: usize, set: &[u16]) -> bool
     requires { ⌜ InTable l (now table) c × (now set ≡ flagsSet l (now table) c) ⌝ }
     ensures { λ r. ⌜ r ≡ any (badFlag l (now (table .entry)) c) (l .nsym) ⌝ }
 {
+    let mut bad = false;
     let mut j = 0;
     while j < l.nsym {
         if bad_flag(l, table, c, set, j) {
-            return true;
+            bad = true;
         }
         j += 1;
     }
-    false
+    bad
 }
 
 // The test of a carrier's flags, by way of room for what its values set.
@@ -143,31 +145,28 @@ fn wrong_flag(l: Layout, table: &[u16]) -> bool
     false
 }
 
+// A part that isn't finite has no finite square, so the norm's range tells all.
 fn bad_phasor(z: Complex) -> bool
     ensures { λ r. ⌜ r ≡ badPhasor z ⌝ }
 {
-    if !laws::is_finite(z.re) {
-        return true;
-    }
-    if !laws::is_finite(z.im) {
-        return true;
-    }
     !laws::in_range(complex::norm_sqr(z), 0.99, 1.01)
 }
 
+// Looks at every phasor, with no branch.
 fn wrong_size(l: Layout, phasors: &[f64]) -> bool
     requires { ⌜ Sized l × (wrongCount l (now phasors) ≡ false) ⌝ }
     ensures { λ r. ⌜ r ≡ wrongSize l (now (phasors .entry)) ⌝ }
 {
     let count = l.nc * l.nsym;
+    let mut bad = false;
     let mut i = 0;
     while i < count {
         if bad_phasor(complex::get(phasors, i)) {
-            return true;
+            bad = true;
         }
         i += 1;
     }
-    false
+    bad
 }
 
 // Conditions 3 to 5, first fault first.
@@ -273,16 +272,27 @@ pub fn carrier_cells(l: Layout, table: &[u16], c: usize, out: &mut [usize])
     select(l, table, c, false, out)
 }
 
-// As many of the symbols as there is room for, evenly spread: `thin` of dsp.rs.
+// As many of the symbols as there is room for, evenly spread: `thin` of dsp.rs. The place `at` of entry i is
+// i * len / most, and `rest` that division's remainder: both carried along, so no entry divides.
 fn spread(symbols: &[usize], out: &mut [usize])
     requires { ⌜ (0 < length (now out)) × (length (now out) ≤ length (now symbols)) × (length (now symbols) ≤ 450) ⌝ }
     ensures { λ _. ⌜ now (out .exit) ≡ thin (now (symbols .entry)) (length (now (out .entry))) ⌝ }
 {
     let most = out.len();
     let len = symbols.len();
+    let whole = len / most;
+    let part = len % most;
+    let mut at = 0;
+    let mut rest = 0;
     let mut i = 0;
     while i < most {
-        out[i] = symbols[i * len / most];
+        out[i] = symbols[at];
+        at += whole;
+        rest += part;
+        if rest >= most {
+            at += 1;
+            rest -= most;
+        }
         i += 1;
     }
 }

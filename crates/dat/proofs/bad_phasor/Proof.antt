@@ -1,41 +1,37 @@
--- `dat::bad_phasor` meets its contract: the tests in the order of the definition. Assumes nothing.
+-- `dat::bad_phasor` meets its contract: a norm in the range has finite parts. Assumes nothing.
 use mathlib.Core.Path.{_≡_, refl, sym, ap, _∙_}
-use mathlib.Core.Bool.{Bool, true, false, not}
+use mathlib.Core.Bool.{Bool, true, false, not, _||_, or-true}
+use lib.Dec.{T}
+use lib.Ieee.{binary64, mul}
 use lib.Ieee.Scale.{finite}
 use borrow.Author.Needs.{needs}
-use borrow.Author.Tests.{not-true, not-false}
 use Rattle.complex.specs.declared.Complex.{Complex}
 use Rattle.complex.specs.Arithmetic.{normSqr}
 use Rattle.laws.specs.Tests.{inRange}
+use Rattle.laws.specs.Operations.{add-finite, mul-finite}
+use Rattle.laws.specs.Ranges.{in-range-finite}
 use Rattle.dat.specs.Tables.{badPhasor, leastSquare, greatestSquare}
 use Rattle.dat.proofs.bad_phasor.Statement.{statement}
 use Rattle.dat.proofs.bad_phasor.Tie as tie
 
-first : (z : Complex) → finite (z .re) ≡ false → true ≡ badPhasor z
+true-by : (b : Bool) → T b → b ≡ true
+true-by true h = refl
+true-by false h = absurd h
+
+-- the parts of a norm in the range
+parts-finite : (z : Complex) → T (inRange leastSquare greatestSquare (normSqr z)) → (finite (z .re) ≡ true) × (finite (z .im) ≡ true)
+unfolding normSqr lib.Ieee.ofBits
+parts-finite z h =
+    let n = in-range-finite leastSquare greatestSquare (normSqr z) tt tt h in
+    let s = add-finite binary64 (mul binary64 (z .re) (z .re)) (mul binary64 (z .im) (z .im)) n in
+    (true-by _ (mul-finite binary64 (z .re) (z .re) (s .0) .0), true-by _ (mul-finite binary64 (z .im) (z .im) (s .1) .0))
+
+by-norm : (z : Complex) (b : Bool) → b ≡ inRange leastSquare greatestSquare (normSqr z) → not b ≡ badPhasor z
 unfolding badPhasor
-first z a = rw a refl
-
-second : (z : Complex) → finite (z .re) ≡ true → finite (z .im) ≡ false → true ≡ badPhasor z
-unfolding badPhasor
-second z a b = rw (a, b) refl
-
-third : (z : Complex) (r : Bool) → finite (z .re) ≡ true → finite (z .im) ≡ true → r ≡ inRange leastSquare greatestSquare (normSqr z) → not r ≡ badPhasor z
-unfolding badPhasor
-third z r a b e = rw (a, b) (ap not e)
-
-is-finite-requires : tie.Need-is-finite-requires
-is-finite-requires c κs = search needs
-
-returns : tie.Need-returns
-returns c = first _ (sym (c .before .is-finite .ensures) ∙ not-true _ (c .if1 .taken))
-
-is-finite-requires-2 : tie.Need-is-finite-requires-2
-is-finite-requires-2 c κs = search needs
-
-returns-2 : tie.Need-returns-2
-returns-2 c =
-    second _ (sym (c .before .before .before .is-finite .ensures) ∙ not-false _ (c .before .before .if1 .left))
-    (sym (c .before .is-finite2 .ensures) ∙ not-true _ (c .if2 .taken))
+by-norm z true e =
+    let f = parts-finite z (rw (sym e) tt) in
+    rw (f .0, f .1, sym e) refl
+by-norm z false e = rw (sym e) (sym (or-true (not (finite (z .re)) || not (finite (z .im)))))
 
 norm-sqr-requires : tie.Need-norm-sqr-requires
 norm-sqr-requires c κs = search needs
@@ -43,20 +39,8 @@ norm-sqr-requires c κs = search needs
 in-range-requires : tie.Need-in-range-requires
 in-range-requires c κs = search needs
 
-returns-3 : tie.Need-returns-3
-returns-3 c =
-    third _ _ (sym (c .before .before .before .before .before .is-finite .ensures) ∙ not-false _ (c .before .before .before .before .if1 .left))
-    (sym (c .before .before .before .is-finite2 .ensures) ∙ not-false _ (c .before .before .if2 .left))
-    (c .in-range .ensures ∙ ap (inRange leastSquare greatestSquare) (c .before .norm-sqr .ensures))
+returns : tie.Need-returns
+returns c = by-norm _ _ (c .in-range .ensures ∙ ap (inRange leastSquare greatestSquare) (c .before .norm-sqr .ensures))
 
 pub bad-phasor-spec : {M : Type 1} → statement M
-bad-phasor-spec =
-    tie.close
-    (tie.spec
-    is-finite-requires
-    returns
-    is-finite-requires-2
-    returns-2
-    norm-sqr-requires
-    in-range-requires
-    returns-3)
+bad-phasor-spec = tie.close (tie.spec norm-sqr-requires in-range-requires returns)
