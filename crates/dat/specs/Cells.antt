@@ -1,6 +1,6 @@
 -- Marks, data cells, kept cells and their references (01, "Marks and cells"; rx/psk.rs). Definitions only.
 use Prim.Native.Nat.{ℕ, zero, suc, _+_, _-_, _*_, _/_, _^_}
-use mathlib.Core.Bool.{Bool, true, false, not, cond}
+use mathlib.Core.Bool.{Bool, not, cond}
 use mathlib.Core.List.{List, [], _∷_, _++_, map}
 use lib.Dec.{leb}
 use lib.ListN.{length, getD}
@@ -16,15 +16,6 @@ use Rattle.dat.specs.Tables.{marked}
 unfoldable pub symbolsWhere : (ℕ → Bool) → ℕ → List ℕ
 symbolsWhere f zero = []
 symbolsWhere f (suc n) = symbolsWhere f n ++ cond (f (suc n)) (suc n ∷ []) []
-
--- a test, or its opposite
-abbrev pub picked : Bool → Bool → Bool
-picked true b = b
-picked false b = not b
-
--- the symbols of carrier c from 1 to nsym − 1 that are marked, or those that aren't
-abbrev pub selected : Bool → Layout → List ℕ → ℕ → List ℕ
-selected want l table c = symbolsWhere (λ s. picked want (marked l table c s)) (l .nsym - 1)
 
 -- the marks of carrier c, rising
 unfoldable pub marksOf : Layout → List ℕ → ℕ → List ℕ

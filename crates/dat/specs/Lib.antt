@@ -3,6 +3,8 @@ pub mod Cells
 pub mod Counts
 pub mod Accepted
 pub mod AcceptedLaws
+pub mod Insert
+pub mod InsertLaws
 pub mod Select
 pub mod SelectLaws
 pub mod Flags

@@ -1,86 +1,93 @@
--- Loops that gather symbols into a slice, and `thin` as one formula. Assumes nothing.
-use Prim.Native.Nat.{ℕ, suc, _+_, _-_, _*_, _/_, _<_, _≤_, zero-le}
-use mathlib.Core.Path.{_≡_, refl, sym, ap, ap₂, _∙_}
+-- A loop that gathers cells into a slice, and `thin` as one formula. Assumes nothing.
+use Prim.Native.Nat.{ℕ, zero, suc, _+_, _-_, _*_, _/_, _<_, _≤_, zero-le}
+use mathlib.Core.Path.{_≡_, refl, sym, ap, _∙_}
 use mathlib.Core.Logic.{⊎-elim}
-use mathlib.Core.Bool.{Bool, true, false, cond}
-use mathlib.Core.List.{List, [], _∷_, _++_, append-assoc, append-nil}
-use native.Mathlib.Nat.{le-of-eq, lt-of-le-of-lt, lt-of-lt-of-le, eq-or-lt-of-le, mul-comm}
+use mathlib.Core.Bool.{Bool, true, false, not, cond}
+use mathlib.Core.List.{List, [], _∷_, _++_, append-nil}
+use native.Mathlib.Nat.{le-of-eq, lt-of-le-of-lt, lt-of-lt-of-le, eq-or-lt-of-le, le-of-suc-le-suc, mul-comm}
 use native.Mathlib.Nat.{mul-lt-mul-of-pos-right, mul-div-cancel, div-lt-iff-lt-mul, div-eq-of-lt-le, suc-mul, add-mul}
 use native.Mathlib.Numerals.{add-one}
 use native.Mathlib.Omega.{arith}
-use lib.ListN.{length, getD, drop, set, length-append, length-drop, drop-of-length-le}
-use lib.Seq.{drop-cons, set-at}
+use lib.ListN.{length, getD, take, set}
+use lib.Seq.{take-all, take-set-le, take-suc-set}
 use borrow.Author.Tests.{le-leb, lt-leb}
 use Rattle.complex.specs.Lists.{tabulate}
 use Rattle.complex.specs.ListLaws.{tabulate-ext, tabulate-getD}
 use Rattle.dat.specs.Cells.{symbolsWhere, thin}
-use Rattle.dat.specs.Counts.{one, count-next, count-le}
-use Rattle.dat.specs.Select.{Pushed, Gathered}
+use Rattle.dat.specs.Counts.{one, count-step, count-next, count-le}
+use Rattle.dat.specs.Select.{Passed}
 
-pub gathered-none : (f : ℕ → Bool) (l : List ℕ) → Gathered f l 0 0 l
-unfolding symbolsWhere
-gathered-none f l = record { stored = refl; count = refl }
-
-pub gathered-length : (f : ℕ → Bool) (l : List ℕ) (k n : ℕ) (m : List ℕ) → Gathered f l k n m → n ≤ length l → length m
-    ≡ length l
-gathered-length f l k n m g h =
-    let a = ap length (g .stored) in
-    let b = length-append (symbolsWhere f k) (drop n l) in
-    let c = length-drop n l in
-    let e = g .count in
-    omega arith
-
--- there is room for symbol k + 1 where it is taken
-pub room : (f : ℕ → Bool) (l : List ℕ) (k last n : ℕ) → n ≡ length (symbolsWhere f k) → length l
-    ≡ length (symbolsWhere f last) → k < last
-    → (n ≤ length l) × (f (k + 1) ≡ true → n < length l)
-room f l k last n e h K =
-    let a = count-le f k last (omega arith) in
-    let b = count-le f (k + 1) last (omega arith) in
-    let s = count-next f k in
-    (omega arith, λ t. let u : one (f (k + 1)) ≡ 1 = ap one t in omega arith)
-
+-- ---- a loop that stores every symbol and counts those that it keeps
 -- one symbol more
 where-next : (f : ℕ → Bool) (k : ℕ) → symbolsWhere f (k + 1) ≡ symbolsWhere f k ++ cond (f (k + 1)) ((k + 1) ∷ []) []
 unfolding symbolsWhere
 where-next f k = rw add-one refl
 
-module _ (f : ℕ → Bool) (l : List ℕ) (k n : ℕ) (m m′ : List ℕ) (r : ℕ) (g : Gathered f l k n m) where
-  taken : f (k + 1) ≡ true → n < length l → m′ ≡ set m n (k + 1) → r ≡ n + 1 → Gathered f l (k + 1) r m′
-  taken t h s e =
-      let w : symbolsWhere f (k + 1) ≡ symbolsWhere f k ++ ((k + 1) ∷ []) = rw t at (where-next f k) in
-      record {
-        stored = s ∙ ap (λ (x : List ℕ). set x n (k + 1))
-            (g .stored ∙ ap (λ (x : List ℕ). symbolsWhere f k ++ x) (drop-cons l n 0 h))
-            ∙ set-at (symbolsWhere f k) (getD l n 0) (drop (suc n) l) (k + 1) n (sym (g .count))
-            ∙ sym (ap₂ (λ (x : List ℕ) (y : ℕ). x ++ drop y l) w (e ∙ add-one n) ∙ append-assoc (symbolsWhere f k)
-            ((k + 1) ∷ []) (drop (suc n) l));
-        count = let c = g .count in let u = count-next f k in let v : one (f (k + 1)) ≡ 1 = ap one t in omega arith;
-      }
+pub passed-none : (f : ℕ → Bool) (m : List ℕ) → Passed f 0 0 m
+unfolding symbolsWhere
+passed-none f m = record { stored = refl; count = refl }
 
-  left : f (k + 1) ≡ false → m′ ≡ m → r ≡ n → Gathered f l (k + 1) r m′
-  left t s e =
-      let w : symbolsWhere f (k + 1) ≡ symbolsWhere f k = rw t at (where-next f k) ∙ append-nil (symbolsWhere f k) in
-      record {
-        stored = s ∙ g .stored ∙ sym (ap₂ (λ (x : List ℕ) (y : ℕ). x ++ drop y l) w e);
-        count = let c = g .count in let u = count-next f k in let v : one (f (k + 1)) ≡ 0 = ap one t in omega arith;
-      }
+-- where there is room, a symbol is left
+pub passed-in : (f : ℕ → Bool) (k last n : ℕ) (m : List ℕ) → Passed f k n m → k ≤ last
+    → length m ≡ length (symbolsWhere f last) → n < length m → k < last
+passed-in f k last n m p K h r =
+    ⊎-elim
+    (λ e. absurd (full (p .count ∙ ap (λ (j : ℕ). length (symbolsWhere f j)) e)))
+    (λ l. l)
+    (eq-or-lt-of-le K)
+  where
+    full : n ≡ length (symbolsWhere f last) → ⊥
+    full e = omega arith
 
-  -- a turn of the loop
-  pub gathered-more : (take : Bool) → take ≡ f (k + 1) → (take ≡ true → n < length l) → Pushed m n (k + 1) take m′ r
-      → Gathered f l (k + 1) r m′
-  gathered-more true e h p = taken (sym e) (h refl) (p .stored) (p .count)
-  gathered-more false e h p = left (sym e) (p .stored) (p .count)
+pub passed-more : (f : ℕ → Bool) (k n r : ℕ) (m : List ℕ) (left : Bool) → Passed f k n m → n < length m
+    → f (k + 1) ≡ not left → r ≡ cond left n (n + 1) → Passed f (k + 1) r (set m n (k + 1))
+passed-more f k n r m true p h e g =
+    let w : symbolsWhere f (k + 1) ≡ symbolsWhere f k = rw e at (where-next f k) ∙ append-nil (symbolsWhere f k) in
+    record {
+      stored = ap (λ (j : ℕ). take j (set m n (k + 1))) g ∙ take-set-le n m n (k + 1) (omega arith) ∙ p .stored
+          ∙ sym w;
+      count = g ∙ p .count ∙ sym (ap length w);
+    }
+passed-more f k n r m false p h e g =
+    let w : symbolsWhere f (k + 1) ≡ symbolsWhere f k ++ ((k + 1) ∷ []) = rw e at (where-next f k) in
+    record {
+      stored = ap (λ (j : ℕ). take j (set m n (k + 1))) (g ∙ add-one n) ∙ take-suc-set m n (k + 1) h
+          ∙ ap (λ (v : List ℕ). v ++ ((k + 1) ∷ [])) (p .stored) ∙ sym w;
+      count = let c = p .count in let u = count-next f k in let v : one (f (k + 1)) ≡ 1 = ap one e in omega arith;
+    }
 
--- all of them
-pub gathered-all : (f : ℕ → Bool) (l : List ℕ) (last n : ℕ) (m : List ℕ) → Gathered f l last n m → length l
-    ≡ length (symbolsWhere f last) → m ≡ symbolsWhere f last
-gathered-all f l last n m g h =
-    let e = g .count in
-    let q : length l ≤ n = omega arith in
-    g .stored ∙ ap (λ (r : List ℕ). symbolsWhere f last ++ r) (drop-of-length-le l q) ∙ append-nil
-    (symbolsWhere f last)
+-- once all are stored, no later symbol is kept
+where-full : (f : ℕ → Bool) (k last : ℕ) → k ≤ last → length (symbolsWhere f last) ≤ length (symbolsWhere f k)
+    → symbolsWhere f k ≡ symbolsWhere f last
+unfolding symbolsWhere
+where-full f k zero K h = ap (symbolsWhere f) (none k K)
+  where
+    none : (k : ℕ) → k ≤ 0 → k ≡ 0
+    none k h = omega arith
+where-full f k (suc n) K h =
+    ⊎-elim
+    (λ e. ap (symbolsWhere f) e)
+    (λ l. earlier (le-of-suc-le-suc l) (where-full f k n (le-of-suc-le-suc l)))
+    (eq-or-lt-of-le K)
+  where
+    clear : (b : Bool) → one b ≡ 0 → b ≡ false
+    clear false e = refl
+    clear true e = absurd (omega arith)
 
+    earlier : k ≤ n → (length (symbolsWhere f n) ≤ length (symbolsWhere f k) → symbolsWhere f k ≡ symbolsWhere f n)
+        → symbolsWhere f k ≡ symbolsWhere f n ++ cond (f (suc n)) (suc n ∷ []) []
+    earlier l i =
+        let a = count-le f k n l in
+        let s = count-step f n in
+        let z = clear (f (suc n)) (omega arith) in
+        i (omega arith) ∙ rw z (sym (append-nil (symbolsWhere f n)))
+
+pub passed-all : (f : ℕ → Bool) (k last n : ℕ) (m : List ℕ) → Passed f k n m → k ≤ last
+    → length m ≡ length (symbolsWhere f last) → length m ≤ n → m ≡ symbolsWhere f last
+passed-all f k last n m p K h r =
+    sym (take-all n m r) ∙ p .stored ∙ where-full f k last K (omega (arith, p .count))
+
+-- ---- symbols spread evenly
 -- `thin` where there is no more room than symbols
 pub thin-is : (v : List ℕ) (most : ℕ) → 0 < most → most ≤ length v
     → tabulate (λ i. getD v (i * length v / most) 0) most ≡ thin v most

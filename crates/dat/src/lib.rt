@@ -1,18 +1,19 @@
 // The tables that a host lends: marker values and flags, and phasors (01, "Marks and cells"). Conditions 3 to 7,
 // marks, cells and references.
 ghost use mathlib.Core.Path.{_≡_};
-ghost use mathlib.Core.Bool.{true, false};
-ghost use Prim.Native.Nat.{_+_, _-_, _*_, _<_, _≤_};
+ghost use mathlib.Core.Bool.{false, cond};
+ghost use mathlib.Core.List.{_++_};
+ghost use Prim.Native.Nat.{_+_, _*_, _<_, _≤_, min, max};
 ghost use lib.Dec.{eqb};
-ghost use lib.ListN.{length, getD, replicate};
+ghost use lib.ListN.{length, getD, take, drop, replicate};
 ghost use Rattle.refusal.specs.Any.{any};
 ghost use Rattle.level.specs.Lengths.{cells};
 ghost use Rattle.level.specs.Sized.{Sized};
 ghost use Rattle.dat.specs.Tables.{badValue, wrongLength, wrongValue, badFlag, wrongFlag, badPhasor, wrongCount};
 ghost use Rattle.dat.specs.Tables.{wrongSize, markerFault, phasorFault, tableFault, marked};
 ghost use Rattle.dat.specs.Flags.{flagsSet};
-ghost use Rattle.dat.specs.Cells.{picked, selected, marksOf, cellsOf, thin, referenceOf, cellReferenceOf};
-ghost use Rattle.dat.specs.Select.{Pushed};
+ghost use Rattle.dat.specs.Cells.{marksOf, cellsOf, thin, referenceOf, cellReferenceOf};
+ghost use Rattle.dat.specs.Insert.{insertInto};
 ghost use Rattle.dat.specs.Accepted.{InTable, Markers, Phasors};
 use complex::Complex;
 use level::Layout;
@@ -223,53 +224,67 @@ pub fn is_mark(l: Layout, table: &[u16], c: usize, s: usize) -> bool
     table[l.nc * l.markers + (c * l.nsym + (s - 2))] != 0
 }
 
-fn wanted(want: bool, mark: bool) -> bool
-    ensures { λ r. ⌜ r ≡ picked want mark ⌝ }
+fn lesser(x: usize, y: usize) -> usize
+    ensures { λ r. ⌜ r ≡ min x y ⌝ }
 {
-    if want { mark } else { !mark }
+    if x < y { x } else { y }
 }
 
-// Stores s at n where it is taken; answers the count of those stored.
-fn push(out: &mut [usize], n: usize, s: usize, take: bool) -> usize
-    requires { ⌜ (take ≡ true → n < length (now out)) × (n ≤ length (now out)) ⌝ }
-    ensures { λ r. ⌜ Pushed (now (out .entry)) n s take (now (out .exit)) r ⌝ }
+fn greater(x: usize, y: usize) -> usize
+    ensures { λ r. ⌜ r ≡ max x y ⌝ }
 {
-    if take {
-        out[n] = s;
-        return n + 1;
+    if x < y { y } else { x }
+}
+
+// Puts symbol x among the first k, which rise: each place keeps the lesser of two, and the greater is carried on.
+fn insert(out: &mut [usize], k: usize, x: usize)
+    requires { ⌜ k < length (now out) ⌝ }
+    ensures { λ _. ⌜ now (out .exit) ≡ insertInto x (take k (now (out .entry))) ++ drop (k + 1) (now (out .entry)) ⌝ }
+{
+    let mut carried = x;
+    let mut i = 0;
+    while i < k {
+        let y = out[i];
+        out[i] = lesser(carried, y);
+        carried = greater(carried, y);
+        i += 1;
     }
-    n
+    out[k] = carried;
 }
 
-// The symbols of carrier c that are marked, or those that aren't, rising.
-fn select(l: Layout, table: &[u16], c: usize, want: bool, out: &mut [usize])
-    requires { ⌜ Markers l (now table) × (c < l .nc) × (length (now out) ≡ length (selected want l (now table) c)) ⌝ }
-    ensures { λ _. ⌜ now (out .exit) ≡ selected want l (now (table .entry)) c ⌝ }
-{
-    let last = l.nsym - 1;
-    let mut n = 0;
-    let mut k = 0;
-    while k < last {
-        let take = wanted(want, is_mark(l, table, c, k + 1));
-        n = push(out, n, k + 1, take);
-        k += 1;
-    }
-}
-
-// The marks of carrier c, rising.
+// The marks of carrier c, rising: its few values in order, so its flags aren't looked at.
 pub fn carrier_marks(l: Layout, table: &[u16], c: usize, out: &mut [usize])
     requires { ⌜ Markers l (now table) × (c < l .nc) × (length (now out) ≡ l .markers) ⌝ }
     ensures { λ _. ⌜ now (out .exit) ≡ marksOf l (now (table .entry)) c ⌝ }
 {
-    select(l, table, c, true, out)
+    let from = c * l.markers;
+    let mut k = 0;
+    while k < l.markers {
+        insert(out, k, table[from + k] as usize);
+        k += 1;
+    }
 }
 
-// The data cells of carrier c, rising.
+// The count of cells once a symbol is passed.
+fn counted(n: usize, mark: bool) -> usize
+    requires { ⌜ n < 450 ⌝ }
+    ensures { λ r. ⌜ r ≡ cond mark n (n + 1) ⌝ }
+{
+    if mark { n } else { n + 1 }
+}
+
+// The data cells of carrier c, rising. Every symbol is stored and only a cell counted, so no branch waits for a flag.
 pub fn carrier_cells(l: Layout, table: &[u16], c: usize, out: &mut [usize])
     requires { ⌜ Markers l (now table) × (c < l .nc) × (length (now out) ≡ cells l) ⌝ }
     ensures { λ _. ⌜ now (out .exit) ≡ cellsOf l (now (table .entry)) c ⌝ }
 {
-    select(l, table, c, false, out)
+    let mut n = 0;
+    let mut k = 0;
+    while n < out.len() {
+        out[n] = k + 1;
+        n = counted(n, is_mark(l, table, c, k + 1));
+        k += 1;
+    }
 }
 
 // As many of the symbols as there is room for, evenly spread: `thin` of dsp.rs. The place `at` of entry i is
