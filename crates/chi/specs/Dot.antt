@@ -9,6 +9,7 @@ use Rattle.complex.specs.Arithmetic.{cmul}
 use Rattle.complex.specs.Sums.{sumTo}
 use Rattle.complex.specs.Pairs.{cget}
 use Rattle.chi.specs.declared.Three.{Three}
+use Rattle.chi.specs.declared.Four.{Four}
 
 -- the k-th term, `at` positions past the tracks' base
 abbrev pub dotTerm : List Float → List ℕ → List Float → ℕ → ℕ → Complex
@@ -26,3 +27,7 @@ pub record DotFits (room : ℕ) (offs : List ℕ) (refs at : ℕ) : Type 0 where
 -- three sums, at `at` and the two positions behind it
 abbrev pub ThreeAt : (ℕ → Complex) → ℕ → Three → Type 0
 ThreeAt f at r = (r .first ≡ f at) × (r .second ≡ f (at + 1)) × (r .third ≡ f (at + 2))
+
+-- four sums, at `at` and the three positions behind it
+abbrev pub FourAt : (ℕ → Complex) → ℕ → Four → Type 0
+FourAt f at r = (r .first ≡ f at) × ThreeAt f (at + 1) (r .behind)

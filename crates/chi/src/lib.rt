@@ -11,7 +11,7 @@ ghost use Rattle.dat.specs.Cells.{cellAt};
 ghost use Rattle.dat.specs.Accepted.{Markers, Phasors};
 ghost use Rattle.chi.specs.Table.{perCarrier, symbolsOf, partOf, placeOf, referenceFor, Row, RowTabled};
 ghost use Rattle.chi.specs.Table.{RowFits, Tabled, TableFits};
-ghost use Rattle.chi.specs.Dot.{dotAt, DotFits, ThreeAt};
+ghost use Rattle.chi.specs.Dot.{dotAt, DotFits, ThreeAt, FourAt};
 use complex::Complex;
 use level::Layout;
 
@@ -220,5 +220,41 @@ pub fn dot_three(memory: &[f64], offs: &[usize], refs: &[f64], at: usize) -> Thr
         first,
         second,
         third,
+    }
+}
+
+// The sums at four positions, one behind the other.
+pub struct Four {
+    pub first: Complex,
+    pub behind: Three,
+}
+
+// The sums over a table from `at` to `at` + 3 positions past the tracks' base, in one pass as `dot_three` makes it.
+pub fn dot_four(memory: &[f64], offs: &[usize], refs: &[f64], at: usize) -> Four
+    requires { ⌜ DotFits (length (now memory)) (now offs) (length (now refs)) (at + 3) ⌝ }
+    ensures { λ r. ⌜ FourAt (dotAt (now (memory .entry)) (now (offs .entry)) (now (refs .entry))) at r ⌝ }
+{
+    let mut sum0 = complex::zero();
+    let mut sum1 = complex::zero();
+    let mut sum2 = complex::zero();
+    let mut sum3 = complex::zero();
+    let mut k = 0;
+    while k < offs.len() {
+        let place = offs[k] + at;
+        let q = complex::get(refs, k);
+        sum0 = accumulate(sum0, memory, place, q);
+        sum1 = accumulate(sum1, memory, place + 1, q);
+        sum2 = accumulate(sum2, memory, place + 2, q);
+        sum3 = accumulate(sum3, memory, place + 3, q);
+        k += 1;
+    }
+    let behind = Three {
+        first: sum1,
+        second: sum2,
+        third: sum3,
+    };
+    Four {
+        first: sum0,
+        behind,
     }
 }

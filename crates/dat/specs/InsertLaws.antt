@@ -9,7 +9,8 @@ use native.Mathlib.Numerals.{add-one}
 use native.Mathlib.Omega.{arith}
 use lib.Dec.{eqb}
 use lib.ListN.{length, getD, take, drop, set}
-use lib.Seq.{drop-cons, drop-drop, take-suc-set, drop-set-lt, set-split, append-snoc, take-at, take-all, length-take-le}
+use lib.Seq.{drop-cons, drop-drop, take-suc-set, drop-set-lt, set-split, append-snoc, take-at, take-all}
+use lib.Seq.{length-take-le}
 use borrow.Author.Tests.{eq-eqb, ne-eqb}
 use Rattle.refusal.specs.Any.{any}
 use Rattle.level.specs.declared.Layout.{Layout}

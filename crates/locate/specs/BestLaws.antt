@@ -7,16 +7,11 @@ use mathlib.Core.Bool.{Bool, true, false, cond, true≢false}
 use native.Mathlib.Nat.{eq-or-lt-of-le, le-of-suc-le-suc}
 use native.Mathlib.Numerals.{add-one}
 use native.Mathlib.Omega.{arith}
-use mathlib.Core.List.{List}
-use lib.ListN.{length}
 use lib.Ieee.{Float, lt, le, isNan}
 use Rattle.laws.specs.Order.{lt-asym, lt-number, lt-le, le-lt-trans, not-lt-le}
 use Rattle.search.specs.declared.Chi.{Chi}
-use Rattle.search.specs.declared.Counts.{Counts}
-use Rattle.search.specs.Flat.{countsOf, flatChi}
 use Rattle.locate.specs.declared.Located.{Located}
 use Rattle.locate.specs.Locate.{locatedAt, betterOf, bestFrom}
-use Rattle.locate.specs.Fits.{flatAt}
 
 -- a turn of a loop: one position more
 pub best-step : (f : ℕ → Chi) (p i : ℕ) (r : Located) (q : ℕ) (x : Chi)
@@ -121,14 +116,6 @@ nan-stays f p (suc n) h = rw (nan-stays f p n h) (go (lt (f p .chi) (f (p + suc 
         → cond b (locatedAt (p + suc n) (f (p + suc n))) (locatedAt p (f p)) ≡ locatedAt p (f p)
     go true e = absurd (true≢false (sym h ∙ lt-number (f p .chi) (f (p + suc n) .chi) e))
     go false e = refl
-
--- chi over tables, by counts that are those of the tables
-pub counted : (memory : List Float) (marks : List ℕ) (markRefs : List Float)
-    (cells : List ℕ) (cellRefs : List Float) (base p : ℕ) (n : Counts) (x : Chi)
-    → n ≡ countsOf (length marks) (length cells) → x ≡ flatChi memory marks markRefs cells cellRefs n (p - base)
-    → x ≡ flatAt memory marks markRefs cells cellRefs base p
-counted memory marks markRefs cells cellRefs base p n x e h =
-    h ∙ ap (λ (n : Counts). flatChi memory marks markRefs cells cellRefs n (p - base)) e
 
 -- the position found is one of those asked
 pub best-within : (f : ℕ → Chi) (p n : ℕ) → (p ≤ bestFrom f p n .t .0) × (bestFrom f p n .t .0 ≤ p + n)

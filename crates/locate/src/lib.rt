@@ -6,7 +6,8 @@ ghost use Rattle.chi.specs.declared.Sum.the-variants.{Pilot, Data};
 ghost use Rattle.chi.specs.Table.{TableRoom};
 ghost use Rattle.locate.specs.Locate.{locatedAt, betterOf, bestFrom, bestAround};
 ghost use Rattle.search.specs.Fits.{stepsIn, powersIn};
-ghost use Rattle.locate.specs.Fits.{flatAt, chiOf, ChiThree, ChiFits, FlatFits, LocateFits};
+ghost use Rattle.search.specs.Flat.{countsOf};
+ghost use Rattle.locate.specs.Fits.{flatAt, chiOf, ChiThree, ChiFour, ChiFits, FlatFits, LocateFits};
 use chi::Sum;
 use complex::Complex;
 use level::Layout;
@@ -43,33 +44,6 @@ fn better(best: Located, p: u64, x: Chi) -> Located
     best
 }
 
-// Chi at position p over tables that are built, of tracks from base on.
-fn chi_in(
-    memory: &[f64],
-    marks: &[usize],
-    mark_refs: &[f64],
-    cells: &[usize],
-    cell_refs: &[f64],
-    base: u64,
-    p: u64,
-) -> Chi
-    requires { ⌜ ChiFits (length (now memory)) (now marks)
-        (length (now «mark_refs»)) (now cells) (length (now «cell_refs»)) base p ⌝ }
-    ensures { λ r. ⌜ r ≡ flatAt (now (memory .entry)) (now (marks .entry))
-        (now («mark_refs» .entry)) (now (cells .entry)) (now («cell_refs» .entry)) base p ⌝ }
-{
-    let n = search::counts_of(marks.len(), cells.len());
-    search::chi_at(
-        memory,
-        marks,
-        mark_refs,
-        cells,
-        cell_refs,
-        n,
-        (p - base) as usize,
-    )
-}
-
 // Chi from the pilot sum a and the data sum b, with the pilot sum.
 fn chi_of(n: Counts, a: Complex, b: Complex) -> Chi
     ensures { λ r. ⌜ r ≡ chiOf n a b ⌝ }
@@ -93,23 +67,60 @@ fn chi_three(
     mark_refs: &[f64],
     cells: &[usize],
     cell_refs: &[f64],
+    n: Counts,
     base: u64,
     p: u64,
 ) -> ThreeChi
-    requires { ⌜ (base ≤ p) × ChiFits (length (now memory)) (now marks)
+    requires { ⌜ (base ≤ p) × (n ≡ countsOf (length (now marks)) (length (now cells)))
+        × ChiFits (length (now memory)) (now marks)
         (length (now «mark_refs»)) (now cells) (length (now «cell_refs»)) base (p + 2) ⌝ }
     ensures { λ r. ⌜ ChiThree (flatAt (now (memory .entry)) (now (marks .entry))
         (now («mark_refs» .entry)) (now (cells .entry)) (now («cell_refs» .entry)) base) p r ⌝ }
 {
-    let counts = search::counts_of(marks.len(), cells.len());
     let at = (p - base) as usize;
     let a = chi::dot_three(memory, marks, mark_refs, at);
     let b = chi::dot_three(memory, cells, cell_refs, at);
     ThreeChi {
-        first: chi_of(counts, a.first, b.first),
-        second: chi_of(counts, a.second, b.second),
-        third: chi_of(counts, a.third, b.third),
+        first: chi_of(n, a.first, b.first),
+        second: chi_of(n, a.second, b.second),
+        third: chi_of(n, a.third, b.third),
     }
+}
+
+// Chi at position p and the three behind it.
+struct FourChi {
+    first: Chi,
+    behind: ThreeChi,
+}
+
+fn chi_four(
+    memory: &[f64],
+    marks: &[usize],
+    mark_refs: &[f64],
+    cells: &[usize],
+    cell_refs: &[f64],
+    n: Counts,
+    base: u64,
+    p: u64,
+) -> FourChi
+    requires { ⌜ (base ≤ p) × (n ≡ countsOf (length (now marks)) (length (now cells)))
+        × ChiFits (length (now memory)) (now marks)
+        (length (now «mark_refs»)) (now cells) (length (now «cell_refs»)) base (p + 3) ⌝ }
+    ensures { λ r. ⌜ ChiFour (flatAt (now (memory .entry)) (now (marks .entry))
+        (now («mark_refs» .entry)) (now (cells .entry)) (now («cell_refs» .entry)) base) p r ⌝ }
+{
+    let at = (p - base) as usize;
+    let a = chi::dot_four(memory, marks, mark_refs, at);
+    let b = chi::dot_four(memory, cells, cell_refs, at);
+    let c = a.behind;
+    let d = b.behind;
+    let first = chi_of(n, a.first, b.first);
+    let behind = ThreeChi {
+        first: chi_of(n, c.first, d.first),
+        second: chi_of(n, c.second, d.second),
+        third: chi_of(n, c.third, d.third),
+    };
+    FourChi { first, behind }
 }
 
 // The best so far, and position p and the two behind it.
@@ -122,7 +133,7 @@ fn better_three(best: Located, p: u64, x: ThreeChi) -> Located
     better(second, p + 2, x.third)
 }
 
-// The best of the seven positions from lo on.
+// The best of the seven positions from lo on, in two passes over the tables.
 fn locate_tables(
     memory: &[f64],
     marks: &[usize],
@@ -137,16 +148,12 @@ fn locate_tables(
     ensures { λ r. ⌜ r ≡ bestFrom (flatAt (now (memory .entry)) (now (marks .entry))
         (now («mark_refs» .entry)) (now (cells .entry)) (now («cell_refs» .entry)) base) lo 6 ⌝ }
 {
-    let first = chi_in(memory, marks, mark_refs, cells, cell_refs, base, lo);
-    let mut best = at_position(lo, first);
-    let mut i: u64 = 0;
-    while i < 6 {
-        let p = lo + i + 1;
-        let x = chi_three(memory, marks, mark_refs, cells, cell_refs, base, p);
-        best = better_three(best, p, x);
-        i += 3;
-    }
-    best
+    let n = search::counts_of(marks.len(), cells.len());
+    let x = chi_four(memory, marks, mark_refs, cells, cell_refs, n, base, lo);
+    let first = at_position(lo, x.first);
+    let best = better_three(first, lo + 1, x.behind);
+    let y = chi_three(memory, marks, mark_refs, cells, cell_refs, n, base, lo + 4);
+    better_three(best, lo + 4, y)
 }
 
 // Locating, by way of room for the tables.

@@ -1,7 +1,7 @@
--- `decode::soft_bits` meets its contract: its array has room for the cells of every layout. Assumes nothing.
+-- `decode::soft_bits` meets its contract: the room has all cells of a layout. Assumes nothing.
 use native.Mathlib.Omega.{arith}
 use Rattle.level.specs.SizedLaws.{sized}
-use Rattle.decode.specs.Places.{cells-room, front}
+use Rattle.decode.specs.Places.{cells-room}
 use borrow.Author.Needs.{needs}
 use Rattle.decode.proofs.soft_bits.Statement.{statement}
 use Rattle.decode.proofs.soft_bits.Tie as tie
@@ -17,29 +17,28 @@ mul-n c =
     let s = c .before .before .before .before .before .before in
     omega (arith, cells-room (s .args .l) (s .pre .0 .layout), sized (s .args .l) (s .pre .0 .layout) .cells-most)
 
-sub-soft-with-room : tie.Need-sub-soft-with-room
-sub-soft-with-room c = search needs
-
-part-places-start : tie.Need-part-places-start
-part-places-start c = search needs
-
-part-places-end : tie.Need-part-places-end
-part-places-end c =
-    let s = c .before .before .before .before .before .before in
-    omega (arith, cells-room (s .args .l) (s .pre .0 .layout), sized (s .args .l) (s .pre .0 .layout) .cells-most)
-
-soft-with-room-requires : tie.Need-soft-with-room-requires
-soft-with-room-requires c κs =
+soft-few-requires : tie.Need-soft-few-requires
+soft-few-requires c κs =
     let s = c .before .before .before .before .before .before .before .before in
-    let w = sized (s .args .l) (s .pre .0 .layout) in
+    (s .pre .0, s .pre .1, cells-room (s .args .l) (s .pre .0 .layout), c .before .if1 .taken)
+
+soft-all-requires : tie.Need-soft-all-requires
+soft-all-requires c κs =
+    let s = c .before .before .before .before .before .before .before .before in
     let e = cells-room (s .args .l) (s .pre .0 .layout) in
-    (s .pre .0, front _ _ _ e (omega (arith, w .cells-most)), s .pre .1)
+    (s .pre .0, s .pre .1, e, omega (arith, e, sized (s .args .l) (s .pre .0 .layout) .cells-most))
 
 same-length : tie.Need-same-length
 same-length c = search needs
 
 returns : tie.Need-returns
 returns c = search needs
+
+same-length-2 : tie.Need-same-length-2
+same-length-2 c = search needs
+
+returns-2 : tie.Need-returns-2
+returns-2 c = search needs
 
 pub soft-bits-spec : {M : Type 1} → statement M
 soft-bits-spec =
@@ -48,9 +47,9 @@ soft-bits-spec =
     sub-n
     sub-n-2
     mul-n
-    sub-soft-with-room
-    part-places-start
-    part-places-end
-    soft-with-room-requires
+    soft-few-requires
+    soft-all-requires
     same-length
-    returns)
+    returns
+    same-length-2
+    returns-2)
