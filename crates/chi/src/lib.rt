@@ -177,20 +177,6 @@ fn accumulate(acc: Complex, memory: &[f64], at: usize, q: Complex) -> Complex
     complex::add(acc, complex::mul(complex::get(memory, at), q))
 }
 
-// The sum over a table, `at` positions past the tracks' base.
-pub fn dot(memory: &[f64], offs: &[usize], refs: &[f64], at: usize) -> Complex
-    requires { ⌜ DotFits (length (now memory)) (now offs) (length (now refs)) at ⌝ }
-    ensures { λ r. ⌜ r ≡ dotAt (now (memory .entry)) (now (offs .entry)) (now (refs .entry)) at ⌝ }
-{
-    let mut sum = complex::zero();
-    let mut k = 0;
-    while k < offs.len() {
-        sum = accumulate(sum, memory, offs[k] + at, complex::get(refs, k));
-        k += 1;
-    }
-    sum
-}
-
 // The sums at three positions, one behind the other.
 pub struct Three {
     pub first: Complex,

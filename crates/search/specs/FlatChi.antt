@@ -54,7 +54,7 @@ module _ (l : Layout) (t : Tables) (marks : List ℕ) (markRefs : List Float) (c
           memory power p v
           ∙ ap (λ (k : ℕ). dotAt memory cells cellRefs (p - k)) e
 
-      -- what `chi_at` answers there
+      -- chi there, over the tables
       abbrev flat : Chi
       flat = flatChi memory marks markRefs cells cellRefs (countsOf (length marks) (length cells)) (p - step .base .0)
 

@@ -4,11 +4,10 @@ ghost use Prim.Native.Nat.{_+_, _-_, _*_, _<_, _≤_, min};
 ghost use lib.ListN.{length};
 ghost use Rattle.chi.specs.declared.Sum.the-variants.{Pilot, Data};
 ghost use Rattle.chi.specs.Table.{TableRoom};
-ghost use Rattle.chi.specs.Dot.{DotFits};
 ghost use Rattle.search.specs.Chi.{candidateOf};
 ghost use Rattle.search.specs.Search.{offerOf, offersFrom};
 ghost use Rattle.search.specs.Fits.{latest, offeredNext, offersIn, Searched, HoldFits, SearchFits};
-ghost use Rattle.search.specs.Flat.{countsOf, chiFrom, flatChi, flatMetric, FlatFits};
+ghost use Rattle.search.specs.Flat.{countsOf, chiFrom, flatMetric, FlatFits};
 ghost use Rattle.search.specs.Block.{offeredAll, offersBy, SumsFit, BlockFits, BlockRoom};
 use chi::Sum;
 use complex::Complex;
@@ -46,29 +45,6 @@ pub fn chi_from(n: Counts, a: Complex, b: Complex) -> f64
     ensures { λ r. ⌜ r ≡ chiFrom n a b ⌝ }
 {
     complex::norm_sqr(a) / n.marks + complex::norm_sqr(b) / n.cells
-}
-
-// Chi over tables of the marks and of the kept cells, `at` positions past the tracks' base.
-pub fn chi_at(
-    memory: &[f64],
-    marks: &[usize],
-    mark_refs: &[f64],
-    cells: &[usize],
-    cell_refs: &[f64],
-    n: Counts,
-    at: usize,
-) -> Chi
-    requires { ⌜ DotFits (length (now memory)) (now marks) (length (now «mark_refs»)) at
-        × DotFits (length (now memory)) (now cells) (length (now «cell_refs»)) at ⌝ }
-    ensures { λ r. ⌜ r ≡ flatChi (now (memory .entry)) (now (marks .entry)) (now («mark_refs» .entry))
-        (now (cells .entry)) (now («cell_refs» .entry)) n at ⌝ }
-{
-    let pilot_sum = chi::dot(memory, marks, mark_refs, at);
-    let data_sum = chi::dot(memory, cells, cell_refs, at);
-    Chi {
-        chi: chi_from(n, pilot_sum, data_sum),
-        pilot_sum,
-    }
 }
 
 // A candidate needs chi at least 20.
