@@ -13,6 +13,7 @@ use Rattle.complex.specs.declared.Complex.{Complex}
 use Rattle.demap.specs.declared.Closest.{Closest}
 use Rattle.demap.specs.Nearest.{distSqr, pointAt, nearestOf, nearest}
 use Rattle.alphabets.specs.Alphabets.{bitsOf, points}
+use Rattle.alphabets.specs.Distances.{distanceAt}
 use Rattle.softstep.specs.Step.{wrongStep}
 use Rattle.runnerup.specs.declared.Ranked.{Ranked}
 use Rattle.runnerup.specs.declared.Searched.{Searched}
@@ -30,11 +31,10 @@ leastOther d h (suc n) =
 abbrev pub rankedBy : (ℕ → Float) → ℕ → Closest → Ranked
 rankedBy d n r = record { label = r .label; distance = r .distance; «runner_up» = leastOther d (r .label) n }
 
--- among the first n labels
-unfoldable pub rankedTo : List Complex → Complex → ℕ → Ranked
-unfolding leastOther nearestOf distSqr
-rankedTo points z n =
-    rankedBy (λ j. distSqr z (pointAt points j)) n (nearestOf (λ j. distSqr z (pointAt points j)) n)
+-- among the first n labels, by the distances of all
+unfoldable pub rankedTo : List Float → ℕ → Ranked
+unfolding leastOther nearestOf
+rankedTo distances n = rankedBy (distanceAt distances) n (nearestOf (distanceAt distances) n)
 
 -- among all points, the nearest as 01 has it
 unfoldable pub rankedIn : List Complex → Complex → Ranked

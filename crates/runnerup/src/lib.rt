@@ -1,6 +1,7 @@
 // The nearest point of a step, and how near the next one is (02, U13).
 ghost use mathlib.Core.Path.{_≡_};
-ghost use Prim.Native.Nat.{_+_, _≤_, _<_, _^_};
+ghost use Prim.Native.Nat.{_+_, _≤_, _<_};
+ghost use lib.ListN.{length};
 ghost use Rattle.alphabets.specs.Alphabets.{points};
 ghost use Rattle.runnerup.specs.Ranked.{rankedTo, rankedIn, outcome, searched};
 use complex::Complex;
@@ -20,11 +21,11 @@ pub enum Searched {
 }
 
 // The ranking with label j beside those before it.
-fn ranked_with(w: usize, z: Complex, j: usize, r: Ranked) -> Ranked
-    requires { ⌜ (1 ≤ w) × (w ≤ 5) × (j < 2 ^ w) × (r ≡ rankedTo (points w) z j) ⌝ }
-    ensures { λ q. ⌜ q ≡ rankedTo (points w) z (j + 1) ⌝ }
+fn ranked_with(distances: &[f64], j: usize, r: Ranked) -> Ranked
+    requires { ⌜ (length (now distances) ≤ 32) × (j < length (now distances)) × (r ≡ rankedTo (now distances) j) ⌝ }
+    ensures { λ q. ⌜ q ≡ rankedTo (now (distances .entry)) (j + 1) ⌝ }
 {
-    let d = alphabets::distance(z, alphabets::point(w, j));
+    let d = distances[j];
     if d < r.distance {
         return Ranked {
             label: j,
@@ -42,12 +43,12 @@ fn ranked_with(w: usize, z: Complex, j: usize, r: Ranked) -> Ranked
     r
 }
 
-// The ranking of all points of w bits.
-fn rank(w: usize, z: Complex) -> Ranked
-    requires { ⌜ (1 ≤ w) × (w ≤ 5) ⌝ }
-    ensures { λ r. ⌜ r ≡ rankedIn (points w) z ⌝ }
+// The ranking of all points by their distances.
+fn rank(distances: &[f64]) -> Ranked
+    requires { ⌜ length (now distances) ≤ 32 ⌝ }
+    ensures { λ r. ⌜ r ≡ rankedTo (now (distances .entry)) (length (now (distances .entry))) ⌝ }
 {
-    let n = alphabets::size(w);
+    let n = distances.len();
     let mut r = Ranked {
         label: 0,
         distance: 1.0 / 0.0,
@@ -55,10 +56,35 @@ fn rank(w: usize, z: Complex) -> Ranked
     };
     let mut j: usize = 0;
     while j < n {
-        r = ranked_with(w, z, j, r);
+        r = ranked_with(distances, j, r);
         j += 1;
     }
     r
+}
+
+// The ranking of all points of w bits, each of whose distances is measured once.
+fn rank_points(w: usize, z: Complex) -> Ranked
+    requires { ⌜ (1 ≤ w) × (w ≤ 5) ⌝ }
+    ensures { λ r. ⌜ r ≡ rankedIn (points w) z ⌝ }
+{
+    if w == 1 {
+        let two = alphabets::distances2(z);
+        return rank(&two);
+    }
+    if w == 2 {
+        let four = alphabets::distances4(z);
+        return rank(&four);
+    }
+    if w == 3 {
+        let eight = alphabets::distances8(z);
+        return rank(&eight);
+    }
+    if w == 4 {
+        let sixteen = alphabets::distances16(z);
+        return rank(&sixteen);
+    }
+    let all = alphabets::distances32(z);
+    rank(&all)
 }
 
 // The nearest point of a step, with the distance of the next one.
@@ -72,5 +98,5 @@ pub fn nearest_point(size: usize, z: Complex) -> Searched
     if softstep::wrong_step(z) {
         return Searched::Refused(Refusal::StepSize);
     }
-    Searched::Found(rank(w, z))
+    Searched::Found(rank_points(w, z))
 }

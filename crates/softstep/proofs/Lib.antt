@@ -1,7 +1,5 @@
-pub mod Far
-pub mod Labels
-pub mod Padded
-pub mod Weighed
+pub mod RowTest
+pub mod Distances
 pub mod Powers
 pub mod Gaps
 pub mod Spaced

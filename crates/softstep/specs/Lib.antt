@@ -1,4 +1,4 @@
 pub mod Step
 pub mod StepLaw
-pub mod Four
+pub mod Rows
 pub mod StepWithin

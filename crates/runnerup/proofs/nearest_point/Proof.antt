@@ -42,8 +42,8 @@ returns-2 c =
     let e = c .before .before .before .bits .ensures in
     step-wrong _ _ (λ g. c .before .before .if1 .left (e ∙ g)) (sym (c .before .wrong-step .ensures) ∙ c .if2 .taken)
 
-rank-requires : tie.Need-rank-requires
-rank-requires c κs =
+rank-points-requires : tie.Need-rank-points-requires
+rank-points-requires c κs =
     let e = c .before .before .before .bits .ensures in
     let k = bits-known (c .before .before .before .before .args .size) (λ g. c .before .before .if1 .left (e ∙ g)) in
     (rw e (k .0), rw e (k .1))
@@ -53,7 +53,9 @@ returns-3 c =
     let b = c .before in
     let e = b .before .before .before .bits .ensures in
     found _ _ _ _ e (λ g. b .before .before .if1 .left (e ∙ g)) (sym (b .before .wrong-step .ensures) ∙ b .if2 .left)
-    (c .rank .ensures)
+    (c .rank-points .ensures)
 
 pub nearest-point-spec : {M : Type 1} → statement M
-nearest-point-spec = tie.close (tie.spec bits-requires returns wrong-step-requires returns-2 rank-requires returns-3)
+nearest-point-spec =
+    tie.close
+    (tie.spec bits-requires returns wrong-step-requires returns-2 rank-points-requires returns-3)
