@@ -27,6 +27,16 @@ part-small l c i C =
     let n = z .nsym-most in
     mul-le-mul {n₂ = 39} {m₂ = 40992} (omega arith) (omega arith)
 
+-- a symbol is 32 positions behind the one before
+along : (p b g s : ℕ) → p + (b + (g + 32 * 0)) + 32 * s ≡ p + (b + (g + 32 * s))
+along p b g s = omega arith
+
+pub place-on : (l : Layout) (span : Span) (t c s : ℕ) (from : ℕ) → from ≡ placeOf l span t c 0
+    → from + 32 * s ≡ placeOf l span t c s
+place-on l span t c s from e =
+    ap (λ (p : ℕ). p + 32 * s) e
+    ∙ along (filteredPart c * partLength l) (t - span .base .0) (stagger (l .nc) c) s
+
 module _ (l : Layout) (span : Span) (t : ℕ) (f : FilteredFit l span t) (c s : ℕ)
     (C : c < l .nc) (S : s < l .nsym) where
   pub behind-small : behindBase l span t c s < span .len

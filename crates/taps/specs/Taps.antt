@@ -78,6 +78,10 @@ tapBits =
     0xbf94_b1f8_4000_0000 ∷
     []
 
+-- those numbers
+unfoldable pub tapTable : List Float
+tapTable = map (ofBits binary64) tapBits
+
 -- where a pulse starts in the table
 abbrev pub tapStart : Pulse → ℕ
 tapStart rc = 0

@@ -6,7 +6,7 @@ ghost use lib.ListN.{length};
 ghost use Rattle.level.specs.Layout.{tapCount, pulseOf};
 ghost use Rattle.level.specs.Rows.{IsLayout};
 ghost use Rattle.complex.specs.Lists.{filled};
-ghost use Rattle.taps.specs.Taps.{tapStart, tap, senderTap, tapSum, receiverTap};
+ghost use Rattle.taps.specs.Taps.{tapStart, tapTable, tap, senderTap, tapSum, receiverTap};
 ghost use Rattle.taps.specs.Interp.{interpTap};
 ghost use Rattle.taps.specs.PhaseSteps.{phaseStep};
 use level::Layout;
@@ -25,22 +25,29 @@ fn tap_start(taps: usize) -> usize
     }
 }
 
-// Tap j of the pulse of that many taps.
-fn tap(taps: usize, j: usize) -> f64
-    requires { ⌜ (taps ≡ tapCount (pulseOf taps)) × (j < taps) ⌝ }
-    ensures { λ r. ⌜ r ≡ tap (pulseOf taps) j ⌝ }
+// The table of taps. It is asked for once where many taps are read: a use of a constant array stores all of it.
+fn table() -> [f64; 227]
+    ensures { λ r. ⌜ r ≡ tapTable ⌝ }
 {
-    TAPS[tap_start(taps) + j]
+    TAPS
 }
 
-fn tap_sum(taps: usize) -> f64
-    requires { ⌜ taps ≡ tapCount (pulseOf taps) ⌝ }
+// Tap j of the pulse of that many taps.
+fn tap(table: &[f64; 227], taps: usize, j: usize) -> f64
+    requires { ⌜ (now table ≡ tapTable) × (taps ≡ tapCount (pulseOf taps)) × (j < taps) ⌝ }
+    ensures { λ r. ⌜ r ≡ tap (pulseOf taps) j ⌝ }
+{
+    table[tap_start(taps) + j]
+}
+
+fn tap_sum(table: &[f64; 227], taps: usize) -> f64
+    requires { ⌜ (now table ≡ tapTable) × (taps ≡ tapCount (pulseOf taps)) ⌝ }
     ensures { λ r. ⌜ r ≡ tapSum (pulseOf taps) ⌝ }
 {
     let mut sum = 0.0;
     let mut j = 0;
     while j < taps {
-        sum += tap(taps, j);
+        sum += tap(table, taps, j);
         j += 1;
     }
     sum
@@ -52,19 +59,24 @@ pub fn receiver_taps(l: Layout, out: &mut [f64])
     ensures { λ _. ⌜ now (out .exit) ≡ filled (receiverTap (pulseOf (l .taps))) (l .taps) (now (out .entry)) ⌝ }
 {
     let taps = l.taps;
-    let sum = tap_sum(taps);
+    let table = table();
+    let sum = tap_sum(&table, taps);
     let mut j = 0;
     while j < taps {
-        out[j] = tap(taps, j) / sum;
+        out[j] = tap(&table, taps, j) / sum;
         j += 1;
     }
 }
 
-fn sender_tap(taps: usize, j: usize) -> f64
-    requires { ⌜ (taps ≡ tapCount (pulseOf taps)) × (j < taps) ⌝ }
+fn sender_tap(table: &[f64; 227], taps: usize, j: usize) -> f64
+    requires { ⌜ (now table ≡ tapTable) × (taps ≡ tapCount (pulseOf taps)) × (j < taps) ⌝ }
     ensures { λ r. ⌜ r ≡ senderTap (pulseOf taps) j ⌝ }
 {
-    if j + 1 == taps { 0.0 } else { tap(taps, j) }
+    if j + 1 == taps {
+        0.0
+    } else {
+        tap(table, taps, j)
+    }
 }
 
 // Fills the first taps with the sender's: the last is 0.
@@ -73,9 +85,10 @@ pub fn sender_taps(l: Layout, out: &mut [f64])
     ensures { λ _. ⌜ now (out .exit) ≡ filled (senderTap (pulseOf (l .taps))) (l .taps) (now (out .entry)) ⌝ }
 {
     let taps = l.taps;
+    let table = table();
     let mut j = 0;
     while j < taps {
-        out[j] = sender_tap(taps, j);
+        out[j] = sender_tap(&table, taps, j);
         j += 1;
     }
 }

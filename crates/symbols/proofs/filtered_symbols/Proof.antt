@@ -1,48 +1,54 @@
--- `symbols::filtered_symbols` meets its contract: a turn stores one symbol more. Assumes nothing.
-use Prim.Native.Nat.{_-_, _*_, _≤_}
+-- `symbols::filtered_symbols` meets its contract: a turn stores the symbols of one carrier more. Assumes nothing.
+use Prim.Native.Nat.{ℕ, _-_, _*_, _≤_}
+use mathlib.Core.Path.{_≡_, refl, ap, _∙_}
 use native.Mathlib.Omega.{arith}
-use Rattle.eq.specs.Fill.{Filling, filling-none, filling-more, filling-all}
+use Rattle.level.specs.SizedLaws.{sized}
+use Rattle.dat.specs.AcceptedLaws.{row-in}
+use Rattle.eq.specs.Fill.{Filling, filling-all}
 use Rattle.symbols.specs.Standing.{filteredIth}
+use Rattle.turned.specs.StoredLaws.{filling-rows, filling-row}
 use Rattle.symbols.proofs.filtered_symbols.Statement.{statement}
 use Rattle.symbols.proofs.filtered_symbols.Tie as tie
 
 abbrev Inv-loop : tie.InvT-loop
-Inv-loop l memory phasors filtered t out₀ n k₀ out k =
-    (k ≤ l .nc * l .nsym) × Filling (filteredIth l memory phasors filtered t) k out₀ out
+Inv-loop l memory phasors filtered t out₀ c₀ out c =
+    (c ≤ l .nc) × Filling (filteredIth l memory phasors filtered t) (c * l .nsym) out₀ out
 
 abbrev μ-loop : tie.MeasureT-loop
-μ-loop l memory phasors filtered t out₀ n k₀ out k = l .nc * l .nsym - k
-
-mul-n : tie.Need-mul-n Inv-loop μ-loop
-mul-n c = omega (arith, c .before .before .before .before .pre .3)
+μ-loop l memory phasors filtered t out₀ c₀ out c = l .nc - c
 
 loop-holds : tie.Need-loop-holds Inv-loop μ-loop
-loop-holds c = (omega arith, filling-none _ _)
+loop-holds c = (omega arith, filling-rows _ _ _)
 
-symbol-requires : tie.Need-symbol-requires Inv-loop μ-loop
-symbol-requires c κs =
-    let p = c .before .before .before .before .before .before .pre in
-    (p .0, p .1, p .2, c .loop-test .taken)
+filtered-row-requires : tie.Need-filtered-row-requires Inv-loop μ-loop
+filtered-row-requires c κs =
+    let p = c .before .before .before .before .before .before .before .pre in
+    (p .0, p .1, p .2, c .before .if1 .taken, c .before .before .before .loop .inv .1 .long ∙ p .3)
 
-put-requires : tie.Need-put-requires Inv-loop μ-loop
-put-requires c κs = omega (arith, c .before .before .before .loop .inv .1 .long, c .before .before .before .before .before .before .before .before .pre .3)
-
-add-k : tie.Need-add-k Inv-loop μ-loop
-add-k c = omega arith
+add-c : tie.Need-add-c Inv-loop μ-loop
+add-c c = omega (arith, c .before .before .before .before .if1 .taken, sized _ (c .before .before .before .before .before .before .before .before .before .before .pre .0 .layout) .nc-most)
 
 loop-less : tie.Need-loop-less Inv-loop μ-loop
-loop-less c = omega arith
+loop-less c = omega (arith, c .before .before .before .before .if1 .taken)
 
 loop-again : tie.Need-loop-again Inv-loop μ-loop
 loop-again c =
-    let s = c .before .before .before .before .before .before .before .before .before .before .before in
-    (omega arith, filling-more _ _ _ _ _ _ (c .before .before .before .before .before .before .loop .inv .1) (omega (arith, s .pre .3)) (c .before .before .before .before .symbol .ensures) (c .before .before .put .ensures))
+    let s = c .before .before .before .before .before .before .before .before .before .before in
+    let p = s .pre in
+    let a = s .args in
+    let z = sized _ (p .0 .layout) in
+    let C = c .before .before .before .before .if1 .taken in
+    let room = row-in (a .l .nc) (a .l .nsym) _ (a .l .nsym - 1) C (omega (arith, z .nsym-least)) in
+    (omega (arith, C), filling-row _ _ _ (a .l .nsym) _ _ _ (c .before .before .before .before .before .before .loop .inv .1) (λ i I. refl) (omega (arith, room, p .3, z .nsym-least)) (c .before .before .filtered-row .ensures))
 
 same-length : tie.Need-same-length Inv-loop μ-loop
-same-length c = c .before .loop .inv .1 .long
+same-length c = c .before .before .loop .inv .1 .long
 
 returns : tie.Need-returns Inv-loop μ-loop
-returns c = filling-all _ _ _ _ _ (c .before .loop .inv .1) (omega arith) (c .before .before .before .before .before .before .pre .3)
+returns c =
+    let s = c .before .before .before .before .before .before in
+    let e : c .before .before .loop .c ≡ s .args .l .nc = omega (arith, c .if1 .left) in
+    filling-all _ _ _ _ _ (c .before .before .loop .inv .1) (ap (λ (k : ℕ). k * s .args .l .nsym) e) (s .pre .3)
 
 pub filtered-symbols-spec : {M : Type 1} → statement M
 filtered-symbols-spec =
@@ -50,11 +56,9 @@ filtered-symbols-spec =
     (tie.spec
     Inv-loop
     μ-loop
-    mul-n
     loop-holds
-    symbol-requires
-    put-requires
-    add-k
+    filtered-row-requires
+    add-c
     loop-less
     loop-again
     same-length

@@ -15,26 +15,29 @@ use Rattle.taps.proofs.receiver_taps.Statement.{statement}
 use Rattle.taps.proofs.receiver_taps.Tie as tie
 
 abbrev Inv-loop : tie.InvT-loop
-Inv-loop out₀ taps sum j₀ out j = (j ≤ taps) × (length out ≡ length out₀) × (out ≡ filled (receiverTap (pulseOf taps)) j out₀)
+Inv-loop out₀ taps table sum j₀ out j = (j ≤ taps) × (length out ≡ length out₀) × (out ≡ filled (receiverTap (pulseOf taps)) j out₀)
 
 abbrev μ-loop : tie.MeasureT-loop
-μ-loop out₀ taps sum j₀ out j = taps - j
+μ-loop out₀ taps table sum j₀ out j = taps - j
 
 quotient : (p : Pulse) (j : ℕ) {t s : Float} → t ≡ tap p j → s ≡ tapSum p → div binary64 t s ≡ receiverTap p j
 unfolding receiverTap
 quotient p j d e = rw (d, e)
 
+table-requires : tie.Need-table-requires Inv-loop μ-loop
+table-requires c κs = search needs
+
 tap-sum-requires : tie.Need-tap-sum-requires Inv-loop μ-loop
-tap-sum-requires c κs = pulse-taps _ (c .before .pre .0)
+tap-sum-requires c κs = (c .before .table .ensures, pulse-taps _ (c .before .before .before .pre .0))
 
 loop-holds : tie.Need-loop-holds Inv-loop μ-loop
 loop-holds c = (omega arith, refl, filled-none _ _)
 
 tap-requires : tie.Need-tap-requires Inv-loop μ-loop
-tap-requires c κs = (pulse-taps _ (c .before .before .before .before .pre .0), search needs)
+tap-requires c κs = (c .before .before .before .before .before .table .ensures, pulse-taps _ (c .before .before .before .before .before .before .before .pre .0), search needs)
 
 mul-out : tie.Need-mul-out Inv-loop μ-loop
-mul-out c = omega (arith, sized _ (c .before .before .before .before .before .pre .0))
+mul-out c = omega (arith, sized _ (c .before .before .before .before .before .before .before .before .pre .0))
 
 slice-write-out : tie.Need-slice-write-out Inv-loop μ-loop
 slice-write-out c = omega arith
@@ -48,9 +51,9 @@ loop-less c = omega arith
 loop-again : tie.Need-loop-again Inv-loop μ-loop
 loop-again c = (
   omega arith,
-  simp length-set (c .before .before .loop .inv .1),
-  rw (quotient _ _ (c .tap .ensures) (c .before .before .before .tap-sum .ensures))
-      (filled-step _ _ _ _ nan (c .before .before .loop .inv .2) (omega arith)),
+  simp length-set (c .before .before .before .loop .inv .1),
+  rw (quotient _ _ (c .tap .ensures) (c .before .before .before .before .tap-sum .ensures))
+      (filled-step _ _ _ _ nan (c .before .before .before .loop .inv .2) (omega arith)),
 )
 
 same-length : tie.Need-same-length Inv-loop μ-loop
@@ -58,7 +61,7 @@ same-length c = search needs
 
 returns : tie.Need-returns Inv-loop μ-loop
 returns c =
-    let e : c .before .loop .j ≡ c .before .before .before .before .args .l .taps = omega arith in
+    let e : c .before .loop .j ≡ c .before .before .before .before .before .before .args .l .taps = omega arith in
     rw e at (c .before .loop .inv .2)
 
 pub receiver-taps-spec : {M : Type 1} → statement M
@@ -67,6 +70,7 @@ receiver-taps-spec =
     (tie.spec
     Inv-loop
     μ-loop
+    table-requires
     tap-sum-requires
     loop-holds
     tap-requires

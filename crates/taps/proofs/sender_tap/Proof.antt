@@ -26,10 +26,10 @@ tap-requires : tie.Need-tap-requires
 tap-requires c κs = search needs
 
 returns : tie.Need-returns
-returns c = last _ _ (c .before .pre .0) (c .if1 .taken)
+returns c = last _ _ (c .before .pre .1) (c .if1 .taken)
 
 returns-2 : tie.Need-returns-2
-returns-2 c = other _ _ (c .before .before .pre .0) (c .before .if1 .left) (c .tap .ensures)
+returns-2 c = other _ _ (c .before .before .pre .1) (c .before .if1 .left) (c .tap .ensures)
 
 pub sender-tap-spec : {M : Type 1} → statement M
 sender-tap-spec = tie.close (tie.spec add-if1 tap-requires returns returns-2)

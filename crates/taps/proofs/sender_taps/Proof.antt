@@ -14,19 +14,22 @@ use Rattle.taps.proofs.sender_taps.Statement.{statement}
 use Rattle.taps.proofs.sender_taps.Tie as tie
 
 abbrev Inv-loop : tie.InvT-loop
-Inv-loop out₀ taps j₀ out j = (j ≤ taps) × (length out ≡ length out₀) × (out ≡ filled (senderTap (pulseOf taps)) j out₀)
+Inv-loop out₀ taps table j₀ out j = (j ≤ taps) × (length out ≡ length out₀) × (out ≡ filled (senderTap (pulseOf taps)) j out₀)
 
 abbrev μ-loop : tie.MeasureT-loop
-μ-loop out₀ taps j₀ out j = taps - j
+μ-loop out₀ taps table j₀ out j = taps - j
+
+table-requires : tie.Need-table-requires Inv-loop μ-loop
+table-requires c κs = search needs
 
 loop-holds : tie.Need-loop-holds Inv-loop μ-loop
 loop-holds c = (omega arith, refl, filled-none _ _)
 
 sender-tap-requires : tie.Need-sender-tap-requires Inv-loop μ-loop
-sender-tap-requires c κs = (pulse-taps _ (c .before .before .before .pre .0), search needs)
+sender-tap-requires c κs = (c .before .before .before .table .ensures, pulse-taps _ (c .before .before .before .before .before .pre .0), search needs)
 
 mul-out : tie.Need-mul-out Inv-loop μ-loop
-mul-out c = omega (arith, sized _ (c .before .before .before .before .pre .0))
+mul-out c = omega (arith, sized _ (c .before .before .before .before .before .before .pre .0))
 
 slice-write-out : tie.Need-slice-write-out Inv-loop μ-loop
 slice-write-out c = omega arith
@@ -40,8 +43,8 @@ loop-less c = omega arith
 loop-again : tie.Need-loop-again Inv-loop μ-loop
 loop-again c = (
   omega arith,
-  simp length-set (c .before .before .loop .inv .1),
-  rw (c .sender-tap .ensures) (filled-step _ _ _ _ nan (c .before .before .loop .inv .2) (omega arith)),
+  simp length-set (c .before .before .before .loop .inv .1),
+  rw (c .sender-tap .ensures) (filled-step _ _ _ _ nan (c .before .before .before .loop .inv .2) (omega arith)),
 )
 
 same-length : tie.Need-same-length Inv-loop μ-loop
@@ -49,7 +52,7 @@ same-length c = search needs
 
 returns : tie.Need-returns Inv-loop μ-loop
 returns c =
-    let e : c .before .loop .j ≡ c .before .before .before .args .l .taps = omega arith in
+    let e : c .before .loop .j ≡ c .before .before .before .before .args .l .taps = omega arith in
     rw e at (c .before .loop .inv .2)
 
 pub sender-taps-spec : {M : Type 1} → statement M
@@ -58,6 +61,7 @@ sender-taps-spec =
     (tie.spec
     Inv-loop
     μ-loop
+    table-requires
     loop-holds
     sender-tap-requires
     mul-out

@@ -1,11 +1,11 @@
--- `taps::tap` meets its contract: the code's literals are the printed patterns. Assumes nothing.
+-- `taps::tap` meets its contract: no pulse runs past the table. Assumes nothing.
 use Prim.Native.Nat.{ℕ, _+_, _<_}
 use mathlib.Core.Path.{_≡_}
 use native.Mathlib.Omega.{arith}
 use borrow.Author.Needs.{needs}
 use Rattle.level.specs.Level.{Pulse, rc, rrc1, rrc2}
 use Rattle.level.specs.Layout.{tapCount, pulseOf}
-use Rattle.taps.specs.Taps.{tapStart, tap}
+use Rattle.taps.specs.Taps.{tapStart, tapTable, tap}
 use Rattle.taps.proofs.tap.Statement.{statement}
 use Rattle.taps.proofs.tap.Tie as tie
 
@@ -22,17 +22,18 @@ tap-start-requires : tie.Need-tap-start-requires
 tap-start-requires c κs = search needs
 
 add-result : tie.Need-add-result
-add-result c = omega (arith, inside _ _ (c .before .pre .0) (c .before .pre .1) (c .tap-start .ensures))
+add-result c = omega (arith, inside _ _ (c .before .pre .1) (c .before .pre .2) (c .tap-start .ensures))
 
 mul-result : tie.Need-mul-result
-mul-result c = omega (arith, inside _ _ (c .before .pre .0) (c .before .pre .1) (c .tap-start .ensures))
+mul-result c = omega (arith, inside _ _ (c .before .pre .1) (c .before .pre .2) (c .tap-start .ensures))
 
-array-read-result : tie.Need-array-read-result
-array-read-result c = omega (arith, inside _ _ (c .before .pre .0) (c .before .pre .1) (c .tap-start .ensures))
+element-copy-out-result : tie.Need-element-copy-out-result
+element-copy-out-result c = omega (arith, inside _ _ (c .before .pre .1) (c .before .pre .2) (c .tap-start .ensures))
 
 returns : tie.Need-returns
-unfolding tap
-returns c = rw (c .tap-start .ensures)
+unfolding tap tapTable
+returns c = rw (c .before .before .pre .0, c .before .tap-start .ensures)
 
 pub tap-spec : {M : Type 1} → statement M
-tap-spec = tie.close (tie.spec tap-start-requires add-result mul-result array-read-result returns)
+tap-spec =
+    tie.close (tie.spec tap-start-requires add-result mul-result element-copy-out-result returns)

@@ -13,10 +13,10 @@ use Rattle.taps.proofs.tap_sum.Statement.{statement}
 use Rattle.taps.proofs.tap_sum.Tie as tie
 
 abbrev Inv-loop : tie.InvT-loop
-Inv-loop taps sum₀ j₀ sum j = (j ≤ taps) × (sum ≡ fsumTo (tap (pulseOf taps)) j)
+Inv-loop table taps sum₀ j₀ sum j = (j ≤ taps) × (sum ≡ fsumTo (tap (pulseOf taps)) j)
 
 abbrev μ-loop : tie.MeasureT-loop
-μ-loop taps sum₀ j₀ sum j = taps - j
+μ-loop table taps sum₀ j₀ sum j = taps - j
 
 next : (p : Pulse) (j : ℕ) {sum t : Float} → sum ≡ fsumTo (tap p) j → t ≡ tap p j → add binary64 sum t ≡ fsumTo (tap p) (j + 1)
 next p j e d = rw (e, d) (sym (fsum-step (tap p) j))
@@ -42,7 +42,7 @@ loop-again : tie.Need-loop-again Inv-loop μ-loop
 loop-again c = (omega arith, next _ _ (c .before .before .loop .inv .1) (c .tap .ensures))
 
 returns : tie.Need-returns Inv-loop μ-loop
-returns c = whole _ _ (c .before .before .pre) (omega arith) (c .before .loop .inv .1)
+returns c = whole _ _ (c .before .before .pre .1) (omega arith) (c .before .loop .inv .1)
 
 pub tap-sum-spec : {M : Type 1} → statement M
 tap-sum-spec =

@@ -1,6 +1,6 @@
 -- `replay_soft_bits::frame::carrier` is safe: the row holds all that a carrier takes. Assumes nothing.
 use Rattle.level.specs.SizedLaws.{carrier-most}
-use Rattle.symbols.specs.DriftLaws.{row-most}
+use Rattle.drift.specs.DriftLaws.{row-most}
 use native.Mathlib.Omega.{arith}
 use borrow.Author.Needs.{needs}
 use Rattle.replay_soft_bits.proofs.frame.carrier.Statement.{statement}

@@ -3,7 +3,7 @@ use native.Mathlib.Omega.{arith}
 use borrow.Author.Needs.{needs}
 use Rattle.level.specs.SizedLaws.{sized}
 use Rattle.dat.specs.AcceptedLaws.{row-in, phasor-in}
-use Rattle.symbols.specs.DriftLaws.{entries-few, row-most}
+use Rattle.drift.specs.DriftLaws.{entries-few, row-most}
 use Rattle.replay_soft_bits.proofs.frame.row_symbol.Statement.{statement}
 use Rattle.replay_soft_bits.proofs.frame.row_symbol.Tie as tie
 

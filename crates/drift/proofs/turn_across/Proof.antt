@@ -1,0 +1,77 @@
+-- `drift::turn_across` meets its contract: a turn turns one sample more. Assumes nothing.
+use Prim.Native.Nat.{_+_, _-_, _*_, _≤_}
+use mathlib.Core.Path.{_≡_, ap₂, _∙_}
+use Rattle.complex.specs.Arithmetic.{cmul}
+use Rattle.eq.specs.Fill.{Filling, filling-none, filling-more}
+use Rattle.turned.specs.Turned.{turnedBy}
+use Rattle.drift.specs.Rows.{samplesIn}
+use borrow.Author.Needs.{needs}
+use native.Mathlib.Omega.{arith}
+use Rattle.drift.proofs.turn_across.Statement.{statement}
+use Rattle.drift.proofs.turn_across.Tie as tie
+
+abbrev Inv-loop : tie.InvT-loop
+Inv-loop l memory samples drift at first count v₀ i₀ v i = (i ≤ count) × Filling (turnedBy drift at (samplesIn l memory samples) first) i v₀ v
+
+abbrev μ-loop : tie.MeasureT-loop
+μ-loop l memory samples drift at first count v₀ i₀ v i = count - i
+
+loop-holds : tie.Need-loop-holds Inv-loop μ-loop
+loop-holds c = (omega arith, filling-none _ _)
+
+add-sample : tie.Need-add-sample Inv-loop μ-loop
+add-sample c = omega arith
+
+sample-requires : tie.Need-sample-requires Inv-loop μ-loop
+sample-requires c κs = search needs
+
+add-get : tie.Need-add-get Inv-loop μ-loop
+add-get c = omega arith
+
+get-requires : tie.Need-get-requires Inv-loop μ-loop
+get-requires c κs = search needs
+
+mul-requires : tie.Need-mul-requires Inv-loop μ-loop
+mul-requires c κs = omega arith
+
+put-requires : tie.Need-put-requires Inv-loop μ-loop
+put-requires c κs = search needs
+
+add-i : tie.Need-add-i Inv-loop μ-loop
+add-i c = omega arith
+
+loop-less : tie.Need-loop-less Inv-loop μ-loop
+loop-less c = omega arith
+
+loop-again : tie.Need-loop-again Inv-loop μ-loop
+unfolding turnedBy
+loop-again c =
+    let z = c .before .before .before .before .mul .ensures ∙ ap₂ cmul (c .before .before .before .before .before .get .ensures) (c .before .before .before .before .before .before .sample .ensures) in
+    (omega arith, filling-more _ _ _ _ _ _ (c .before .before .before .before .before .before .before .before .loop .inv .1) (omega arith) z (c .before .before .put .ensures))
+
+same-length : tie.Need-same-length Inv-loop μ-loop
+same-length c = search needs
+
+returns : tie.Need-returns Inv-loop μ-loop
+returns c =
+    let e : c .before .loop .i ≡ c .before .before .before .before .before .args .count = omega arith in
+    rw e at (c .before .loop .inv .1 .values)
+
+pub turn-across-spec : {M : Type 1} → statement M
+turn-across-spec =
+    tie.close
+    (tie.spec
+    Inv-loop
+    μ-loop
+    loop-holds
+    add-sample
+    sample-requires
+    add-get
+    get-requires
+    mul-requires
+    put-requires
+    add-i
+    loop-less
+    loop-again
+    same-length
+    returns)
