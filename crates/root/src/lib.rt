@@ -172,10 +172,12 @@ pub fn sqrt(x: f64) -> f64
     f64::from_bits(root_bits(b))
 }
 
+// By an estimate, which `sqrt_near` tests.
 pub fn norm(z: Complex) -> f64
     ensures { λ r. ⌜ r ≡ normOf z ⌝ }
 {
-    sqrt(complex::norm_sqr(z))
+    let square = complex::norm_sqr(z);
+    sqrt_near(square, estimate(square))
 }
 
 pub fn unit(z: Complex) -> Complex

@@ -8,12 +8,15 @@ use Rattle.root.proofs.norm.Tie as tie
 norm-sqr-requires : tie.Need-norm-sqr-requires
 norm-sqr-requires c κs = search needs
 
-sqrt-requires : tie.Need-sqrt-requires
-sqrt-requires c κs = search needs
+estimate-requires : tie.Need-estimate-requires
+estimate-requires c κs = search needs
+
+sqrt-near-requires : tie.Need-sqrt-near-requires
+sqrt-near-requires c κs = search needs
 
 returns : tie.Need-returns
 unfolding normOf
-returns c = c .sqrt .ensures ∙ ap sqrtOf (c .before .norm-sqr .ensures)
+returns c = c .sqrt-near .ensures ∙ ap sqrtOf (c .before .before .norm-sqr .ensures)
 
 pub norm-spec : {M : Type 1} → statement M
-norm-spec = tie.close (tie.spec norm-sqr-requires sqrt-requires returns)
+norm-spec = tie.close (tie.spec norm-sqr-requires estimate-requires sqrt-near-requires returns)
