@@ -88,6 +88,11 @@ passed-all f k last n m p K h r =
     sym (take-all n m r) ∙ p .stored ∙ where-full f k last K (omega (arith, p .count))
 
 -- ---- symbols spread evenly
+-- `thin` where there is room for all
+pub thin-all : (v : List ℕ) (most : ℕ) → length v ≤ most → v ≡ thin v most
+unfolding thin
+thin-all v most h = rw (le-leb (length v) most h) refl
+
 -- `thin` where there is no more room than symbols
 pub thin-is : (v : List ℕ) (most : ℕ) → 0 < most → most ≤ length v
     → tabulate (λ i. getD v (i * length v / most) 0) most ≡ thin v most

@@ -322,12 +322,16 @@ fn kept_with_room(l: Layout, table: &[u16], c: usize, all: &mut [usize], out: &m
     spread(all, out)
 }
 
-// The cells of carrier c that the search keeps, as many as there is room for.
+// The cells of carrier c that the search keeps, as many as there is room for. Where that is all, none is left out.
 pub fn carrier_kept(l: Layout, table: &[u16], c: usize, out: &mut [usize])
     requires { ⌜ Markers l (now table) × (c < l .nc) × (0 < length (now out)) × (length (now out) ≤ cells l) ⌝ }
     ensures { λ _. ⌜ now (out .exit) ≡ thin (cellsOf l (now (table .entry)) c) (length (now (out .entry))) ⌝ }
 {
     let count = l.nsym - 1 - l.markers;
+    if out.len() == count {
+        carrier_cells(l, table, c, out);
+        return;
+    }
     let mut all = [0usize; 450];
     kept_with_room(l, table, c, &mut all[0..count], out)
 }
