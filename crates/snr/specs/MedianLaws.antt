@@ -9,7 +9,7 @@ use Rattle.complex.specs.SumLaws.{sum-ext}
 use Rattle.snr.specs.Error.{directionOf, directionSum, phaseTurn, errorOf}
 use Rattle.snr.specs.Median.{insertInto, sortedOf, middleOf, sortedErrors, medianOf}
 
-sorted-same : (u v : ℕ → Float) (n : ℕ) → ((k : ℕ) → k < n → u k ≡ v k) → sortedOf u n ≡ sortedOf v n
+pub sorted-same : (u v : ℕ → Float) (n : ℕ) → ((k : ℕ) → k < n → u k ≡ v k) → sortedOf u n ≡ sortedOf v n
 unfolding sortedOf
 sorted-same u v zero h = refl
 sorted-same u v (suc n) h = ap₂ insertInto (h n (omega arith)) (sorted-same u v n (λ k l. h k (omega arith)))

@@ -4,9 +4,11 @@ ghost use mathlib.Core.Path.{_≡_};
 ghost use mathlib.Core.List.{_++_};
 ghost use Prim.Native.Nat.{_+_, _*_, _<_, _≤_};
 ghost use lib.ListN.{length, take, drop};
-ghost use Rattle.complex.specs.Pairs.{cget};
-ghost use Rattle.snr.specs.Error.{directionOf, directionSum, phaseTurn, sizeOf, errorOf};
-ghost use Rattle.snr.specs.Median.{isBelow, lesserOf, greaterOf, insertInto, sortedErrors, middleOf, medianOf};
+ghost use Rattle.complex.specs.Arithmetic.{cmul};
+ghost use Rattle.complex.specs.Sums.{sumTo};
+ghost use Rattle.complex.specs.Pairs.{cget, cfilled};
+ghost use Rattle.snr.specs.Error.{directionOf, phaseTurn, sizeOf};
+ghost use Rattle.snr.specs.Median.{isBelow, lesserOf, greaterOf, insertInto, sortedOf, middleOf, medianOf};
 use complex::Complex;
 
 // p divided by its norm where that is above 0, else p itself.
@@ -20,15 +22,29 @@ fn direction(p: Complex) -> Complex
     p
 }
 
-// The sum of the directions of the first n products.
-fn direction_sum(prods: &[f64], n: usize) -> Complex
-    requires { ⌜ 2 * n ≤ length (now prods) ⌝ }
-    ensures { λ r. ⌜ r ≡ directionSum (λ k. cget (now (prods .entry)) k) n ⌝ }
+// The directions of the first n products: once each, for a norm is a square root.
+fn directions(prods: &[f64], n: usize, out: &mut [f64])
+    requires { ⌜ (2 * n ≤ length (now prods)) × (2 * n ≤ length (now out)) ⌝ }
+    ensures { λ _. ⌜ now (out .exit)
+        ≡ cfilled (λ k. directionOf (cget (now (prods .entry)) k)) n (now (out .entry)) ⌝ }
+{
+    let mut k = 0;
+    while k < n {
+        let d = direction(complex::get(prods, k));
+        complex::put(out, k, d);
+        k += 1;
+    }
+}
+
+// The sum of the first n directions.
+fn direction_sum(dirs: &[f64], n: usize) -> Complex
+    requires { ⌜ 2 * n ≤ length (now dirs) ⌝ }
+    ensures { λ r. ⌜ r ≡ sumTo (λ k. cget (now (dirs .entry)) k) n ⌝ }
 {
     let mut sum = complex::zero();
     let mut k = 0;
     while k < n {
-        sum = complex::add(sum, direction(complex::get(prods, k)));
+        sum = complex::add(sum, complex::get(dirs, k));
         k += 1;
     }
     sum
@@ -58,11 +74,11 @@ fn size(x: f64) -> f64
     x
 }
 
-// How far a product is from the real axis after the turn r.
-fn error(p: Complex, r: Complex) -> f64
-    ensures { λ e. ⌜ e ≡ errorOf r p ⌝ }
+// How far a direction is from the real axis after the turn r.
+fn error(d: Complex, r: Complex) -> f64
+    ensures { λ e. ⌜ e ≡ sizeOf (cmul d r .im) ⌝ }
 {
-    let turned = complex::mul(direction(p), r);
+    let turned = complex::mul(d, r);
     size(turned.im)
 }
 
@@ -111,14 +127,15 @@ fn insert(a: &mut [f64], k: usize, x: f64)
     a[k] = carried;
 }
 
-// The errors of the first products after the turn r, as many as `out` has room for, in order.
-fn sort_errors(prods: &[f64], r: Complex, out: &mut [f64])
-    requires { ⌜ 2 * length (now out) ≤ length (now prods) ⌝ }
-    ensures { λ _. ⌜ now (out .exit) ≡ sortedErrors (λ k. cget (now (prods .entry)) k) r (length (now (out .entry))) ⌝ }
+// The errors of the first directions after the turn r, as many as `out` has room for, in order.
+fn sort_errors(dirs: &[f64], r: Complex, out: &mut [f64])
+    requires { ⌜ 2 * length (now out) ≤ length (now dirs) ⌝ }
+    ensures { λ _. ⌜ now (out .exit)
+        ≡ sortedOf (λ k. sizeOf (cmul (cget (now (dirs .entry)) k) r .im)) (length (now (out .entry))) ⌝ }
 {
     let mut k = 0;
     while k < out.len() {
-        insert(out, k, error(complex::get(prods, k), r));
+        insert(out, k, error(complex::get(dirs, k), r));
         k += 1;
     }
 }
@@ -135,13 +152,15 @@ fn middle(a: &[f64]) -> f64
     0.5 * (a[half - 1] + a[half])
 }
 
-// The median, by way of room for the errors.
-fn median_with_room(prods: &[f64], room: &mut [f64]) -> f64
-    requires { ⌜ (0 < length (now room)) × (2 * length (now room) ≤ length (now prods)) ⌝ }
+// The median, by way of room for the directions and for the errors.
+fn median_with_room(prods: &[f64], dirs: &mut [f64], room: &mut [f64]) -> f64
+    requires { ⌜ (0 < length (now room)) × (2 * length (now room) ≤ length (now prods))
+        × (2 * length (now room) ≤ length (now dirs)) ⌝ }
     ensures { λ r. ⌜ r ≡ medianOf (λ k. cget (now (prods .entry)) k) (length (now (room .entry))) ⌝ }
 {
-    let r = phase_turn(direction_sum(prods, room.len()));
-    sort_errors(prods, r, room);
+    directions(prods, room.len(), dirs);
+    let r = phase_turn(direction_sum(dirs, room.len()));
+    sort_errors(dirs, r, room);
     middle(room)
 }
 
@@ -150,6 +169,7 @@ pub fn median(prods: &[f64], n: usize) -> f64
     requires { ⌜ (0 < n) × (n ≤ 40) × (2 * n ≤ length (now prods)) ⌝ }
     ensures { λ r. ⌜ r ≡ medianOf (λ k. cget (now (prods .entry)) k) n ⌝ }
 {
+    let mut dirs = [0.0; 80];
     let mut room = [0.0; 40];
-    median_with_room(prods, &mut room[0..n])
+    median_with_room(prods, &mut dirs, &mut room[0..n])
 }
