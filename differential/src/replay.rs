@@ -16,7 +16,7 @@ pub fn run(count: &mut Count) {
     let programs = [
         ("replay_symbols", symbols()),
         ("replay_audio", audio()),
-        ("replay_detections", detections(6, 25_700)),
+        ("replay_detections", format!("500 6\n{}", detections(6, 25_700))),
         ("feed_cases", cuttings()),
         ("replay_readings", readings()),
         ("replay_soft_bits", soft_bits()),

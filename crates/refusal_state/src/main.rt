@@ -187,7 +187,7 @@ fn refusals(markers: &[u16], phasors: &[f64], book: &[f64], memory: &mut [f64], 
     }
 }
 
-fn main() {
+fn receiver() {
     let mut book = [0.0; 6000];
     let mut markers = [0u16; 822];
     let mut phasors = [0.0; 1572];
@@ -198,4 +198,12 @@ fn main() {
     if let Answer::Refused(_) = sent {
         io::write_all(STDOUT_FILENO, b"not sent\n");
     }
+}
+
+fn main() {
+    io::write_all(
+        STDOUT_FILENO,
+        b"openings, then feeds, with what is different after each\n",
+    );
+    receiver();
 }

@@ -3,6 +3,7 @@
 ghost use Prim.Native.Nat.{_^_, _<_, _≤_};
 ghost use lib.ListN.{length};
 use hold::Release;
+use libc::STDOUT_FILENO;
 use refusal::Position;
 use rx::FeedAnswer;
 use rx::OpenAnswer;
@@ -59,7 +60,7 @@ fn receive(markers: &[u16], phasors: &[f64], book: &[f64], opened: State, signal
     feed_all(markers, phasors, book, opened, &mut memory, signal);
 }
 
-fn main() {
+fn detections() {
     let mut book = [0.0; 6000];
     let mut markers = [0u16; 1161];
     let mut phasors = [0.0; 2250];
@@ -71,4 +72,9 @@ fn main() {
         OpenAnswer::Opened(s) => receive(&markers, &phasors, &book, s, &signal),
         OpenAnswer::Refused(r) => replay::show_refusal(r),
     }
+}
+
+fn main() {
+    io::write_all(STDOUT_FILENO, b"500 6\n");
+    detections();
 }
