@@ -17,7 +17,7 @@
  *
  * The stack that a call needs, accepted or refused, in bytes:
  *    260,000  feed                         2,000  modulate, nco_phase, open, decibels
- *     83,000  read                         1,000  layout, offer, payload_bits, meter, soft_step,
+ *     84,000  read                         1,000  layout, offer, payload_bits, meter, soft_step,
  *     46,000  locate                              nearest_point, draw_markers
  *     38,000  by_time, by_carrier
  *      8,000  carrier_audio, residual
