@@ -16,8 +16,9 @@ use Rattle.search.specs.Search.{reach}
 abbrev pub driftLength : Layout → ℕ
 driftLength l = reach l + 2 * l .delay + 2
 
--- a symbol before its phasor: the samples turned by the drift rows ("`rot` with drift, and cosine and sine of carrier phases: lent rows.") and
--- filtered: entry i of a row is for sample p − delay − 1 + i
+-- a symbol before its phasor: the samples turned by the drift rows
+-- ("`rot` with drift, and cosine and sine of carrier phases: lent rows.") and filtered: entry i of a row is for sample
+-- p − delay − 1 + i
 unfoldable pub driftSymbol : Layout → List Float → (ℕ → Complex) → ℕ → ℕ → ℕ → Complex
 driftSymbol l drift samples p c k =
     sumTo

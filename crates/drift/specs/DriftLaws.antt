@@ -113,7 +113,8 @@ drift-is l drift taps v v₀ samples t c s n a e k K =
     (a .values j J))
 
 -- n symbols of carrier c from symbol s on, of samples that are turned for them
-pub drift-ith : (l : Layout) (memory phasors : List Float) (t : ℕ) (samples : Span) (drift taps v v₀ : List Float) (c s n : ℕ) → s + n ≤ l .nsym → IsTaps l taps
+pub drift-ith : (l : Layout) (memory phasors : List Float) (t : ℕ) (samples : Span) (drift taps v v₀ : List Float)
+    (c s n : ℕ) → s + n ≤ l .nsym → IsTaps l taps
     → v ≡ cfilled
     (turnedBy drift (c * driftLength l + entryOf l c s) (samplesIn l memory samples)
     (t - l .delay - 1 + entryOf l c s))

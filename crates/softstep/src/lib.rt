@@ -172,7 +172,7 @@ fn lesser(least: f64, d: f64) -> f64
     least
 }
 
-// The least of the distances at a row's four labels.
+// The least of the distances at a row's four labels. One function a size: a label cut by a constant needs no test.
 fn least8(distances: &[f64], row: u64) -> f64
     requires { ⌜ length (now distances) ≡ 8 ⌝ }
     ensures { λ r. ⌜ r ≡ leastInRow 3 (now (distances .entry)) row ⌝ }
