@@ -1,24 +1,25 @@
 -- Rows of tables: a loop over a row makes a map of it, and row after row makes the table. Assumes nothing.
-use Prim.Native.Nat.{ℕ, suc, _+_, _-_, _*_, _≤_, _<_}
-use mathlib.Core.Path.{_≡_, sym, ap, _∙_}
-use mathlib.Core.List.{List, map, append-nil}
+use Prim.Native.Nat.{ℕ, suc, _+_, _*_, _≤_, _<_}
+use mathlib.Core.Path.{_≡_, refl, sym, ap, _∙_}
+use mathlib.Core.List.{List, _++_, map, append-nil}
 use native.Mathlib.Nat.{mul-le-mul, mul-le-mul-right, suc-mul}
 use native.Mathlib.Omega.{arith}
-use lib.ListN.{length, getD, length-map, List·getD-map, drop-of-length-le}
-use lib.Seq.{ext-getD}
+use lib.ListN.{length, getD, drop, length-map, List·getD-map, drop-of-length-le}
+use lib.Seq.{getD-append-add, getD-drop, ext-getD}
 use lib.Ieee.{Float}
 use Rattle.complex.specs.declared.Complex.{Complex}
-use Rattle.complex.specs.Lists.{tabulate}
-use Rattle.complex.specs.ListLaws.{length-tabulate, getD-tabulate}
+use Rattle.complex.specs.Lists.{tabulate, filled}
+use Rattle.complex.specs.ListLaws.{length-tabulate, getD-tabulate, tabulate-ext}
 use Rattle.complex.specs.Pairs.{parts, cfilled}
 use Rattle.level.specs.declared.Layout.{Layout}
 use Rattle.level.specs.Rows.{IsLayout}
 use Rattle.level.specs.Sized.{Sized}
-use Rattle.level.specs.SizedLaws.{sized}
+use Rattle.level.specs.SizedLaws.{sized, stagger-within}
+use Rattle.dat.specs.Cells.{cellAt}
 use Rattle.dat.specs.Accepted.{Markers}
 use Rattle.chi.specs.declared.Sum.{Sum}
 use Rattle.chi.specs.declared.Sum.the-variants.{Pilot, Data}
-use Rattle.chi.specs.Table.{symbolsOf, perCarrier, partOf, Row}
+use Rattle.chi.specs.Table.{symbolsOf, perCarrier, partOf, placeOf, Row}
 use Rattle.chi.specs.Cells.{kept, symbols-count, symbols-row, part-most}
 
 -- the table of a function of a list's entries
@@ -29,6 +30,15 @@ tabulate-map f xs d =
   where
     len : length (tabulate (λ k. f (getD xs k d)) (length xs)) ≡ length xs
     len = length-tabulate (λ k. f (getD xs k d)) (length xs)
+
+-- the next entry of a slice that a loop fills
+pub filled-next {ℓ} : {A : Type ℓ} (f : ℕ → A) (n : ℕ) (l m : List A) (d : A) → m ≡ filled f n l → getD m n d ≡ getD l n d
+unfolding filled
+filled-next f n l m d e =
+    let a : n ≡ length (tabulate f n) + 0 = omega (arith, length-tabulate f n) in
+    let z : n + 0 ≡ n = omega arith in
+    ap (λ (x : List _). getD x n d) e ∙ ap (λ (j : ℕ). getD (tabulate f n ++ drop n l) j d) a
+    ∙ getD-append-add (tabulate f n) (drop n l) 0 d ∙ getD-drop n l 0 d ∙ ap (λ (j : ℕ). getD l j d) z
 
 -- a slice of parts that is filled to its end
 pub cfilled-all : (f : ℕ → Complex) (n : ℕ) (l : List Float) → length l ≡ 2 * n → cfilled f n l ≡ parts (tabulate f n)
@@ -46,18 +56,25 @@ parts-small sum l p c z C e =
     let n = z .nsym-most in
     mul-le-mul {n₂ = 39} {m₂ = 40992} (omega arith) (omega arith)
 
--- the symbols of a carrier, as a row of its room
+-- that of symbol 0 leaves room for all others
+pub place-small : (sum : Sum) (l : Layout) (c from : ℕ) → IsLayout l → c < l .nc → from ≡ placeOf sum l (cellAt c 0) → from ≤ 39 * 40992 + 21
+place-small sum l c from i C e =
+    omega (arith, parts-small sum l (partOf sum c) c (sized l i) C refl, stagger-within l i c C, sized l i .stagger-most)
+
+-- places counted from that of symbol 0
+pub places-from : (sum : Sum) (l : Layout) (c from : ℕ) (xs : List ℕ) → from ≡ placeOf sum l (cellAt c 0)
+    → tabulate (λ k. from + 32 * getD xs k 0) (length xs) ≡ map (λ s. placeOf sum l (cellAt c s)) xs
+places-from sum l c from xs e =
+    tabulate-ext (λ k. from + 32 * getD xs k 0) (λ k. placeOf sum l (cellAt c (getD xs k 0))) (length xs) (λ k K. omega arith)
+    ∙ tabulate-map (λ s. placeOf sum l (cellAt c s)) xs 0
+
+-- the symbols of a carrier are a row
 module _ (sum : Sum) (l : Layout) (markers : List ℕ) (c : ℕ) (xs : List ℕ) (i : IsLayout l) (m : Markers l markers) (C : c < l .nc) (e : xs ≡ symbolsOf sum l markers c) where
   pub row-of : Row l c xs
   row-of = rw e (symbols-row l markers i m sum c C)
 
   pub row-length : length xs ≡ perCarrier sum l
   row-length = ap length e ∙ symbols-count l markers i m sum c C
-
--- no row is longer than 450
-pub per-small : (sum : Sum) (l : Layout) → IsLayout l → perCarrier sum l ≤ 450
-per-small Pilot l i = omega (arith, sized l i .markers-most)
-per-small Data l i = omega (arith, kept l i .most, sized l i .cells-are, sized l i .nsym-most)
 
 -- carrier c's row stands inside the tables, which are short
 pub row-room : (sum : Sum) (l : Layout) (n c : ℕ) → IsLayout l → n ≡ perCarrier sum l → c < l .nc → (c * n + n ≤ l .nc * perCarrier sum l) × (l .nc * perCarrier sum l ≤ 1500)

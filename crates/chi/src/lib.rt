@@ -74,14 +74,16 @@ fn reference(l: Layout, phasors: &[f64], sum: Sum, c: usize, s: usize) -> Comple
     }
 }
 
-// The places of a row of symbols of carrier c.
-fn places(l: Layout, sum: Sum, c: usize, symbols: &[usize], out: &mut [usize])
-    requires { ⌜ IsLayout l × Row l c (now symbols) × (length (now out) ≡ length (now symbols)) ⌝ }
-    ensures { λ _. ⌜ now (out .exit) ≡ map (λ s. placeOf sum l (cellAt c s)) (now (symbols .entry)) ⌝ }
+// Turns symbols of carrier c into their places, each counted from symbol 0's, which is worked out once for all.
+fn places(l: Layout, sum: Sum, c: usize, out: &mut [usize])
+    requires { ⌜ IsLayout l × Row l c (now out) ⌝ }
+    ensures { λ _. ⌜ now (out .exit) ≡ map (λ s. placeOf sum l (cellAt c s)) (now (out .entry)) ⌝ }
 {
+    let from = place(l, sum, c, 0);
     let mut k = 0;
-    while k < symbols.len() {
-        out[k] = place(l, sum, c, symbols[k]);
+    while k < out.len() {
+        let s = out[k];
+        out[k] = from + 32 * s;
         k += 1;
     }
 }
@@ -99,28 +101,7 @@ fn references(l: Layout, phasors: &[f64], sum: Sum, c: usize, symbols: &[usize],
     }
 }
 
-// A carrier's row of a sum's tables, by way of room for its symbols.
-fn row_with_room(
-    l: Layout,
-    markers: &[u16],
-    phasors: &[f64],
-    sum: Sum,
-    c: usize,
-    room: &mut [usize],
-    offs: &mut [usize],
-    refs: &mut [f64],
-)
-    requires { ⌜ RowFits sum l (now markers) (now phasors) c (length (now offs)) (length (now refs))
-        × (length (now room) ≡ perCarrier sum l) ⌝ }
-    ensures { λ _. ⌜ RowTabled sum l (now (markers .entry)) (now (phasors .entry)) c (now (offs .exit))
-        (now (refs .exit)) ⌝ }
-{
-    symbols(l, markers, sum, c, room);
-    places(l, sum, c, room, offs);
-    references(l, phasors, sum, c, room, refs)
-}
-
-// A carrier's row of a sum's tables.
+// A carrier's row of a sum's tables. Its symbols stand in `offs` first, so that no other array is cleared for them.
 fn row(
     l: Layout,
     markers: &[u16],
@@ -134,9 +115,9 @@ fn row(
     ensures { λ _. ⌜ RowTabled sum l (now (markers .entry)) (now (phasors .entry)) c (now (offs .exit))
         (now (refs .exit)) ⌝ }
 {
-    let n = offs.len();
-    let mut room = [0usize; 450];
-    row_with_room(l, markers, phasors, sum, c, &mut room[0..n], offs, refs)
+    symbols(l, markers, sum, c, offs);
+    references(l, phasors, sum, c, offs, refs);
+    places(l, sum, c, offs)
 }
 
 // The tables of a sum, carrier by carrier: the place and the reference of each of its cells.

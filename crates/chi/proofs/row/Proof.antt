@@ -1,21 +1,33 @@
--- `chi::row` meets its contract: its room has all the symbols of a carrier. Assumes nothing.
-use native.Mathlib.Omega.{arith}
-use Rattle.chi.proofs.Laws.{per-small}
+-- `chi::row` meets its contract: places and references of the symbols that were found. Assumes nothing.
+use Prim.Native.Nat.{ℕ, _*_}
+use mathlib.Core.Path.{sym, ap, _∙_}
+use mathlib.Core.List.{List, map}
+use Rattle.complex.specs.Pairs.{parts}
+use Rattle.dat.specs.Cells.{cellAt}
+use Rattle.chi.specs.Table.{placeOf, referenceFor}
+use Rattle.chi.proofs.Laws.{row-of, row-length}
 use borrow.Author.Needs.{needs}
 use Rattle.chi.proofs.row.Statement.{statement}
 use Rattle.chi.proofs.row.Tie as tie
 
-sub-row-with-room : tie.Need-sub-row-with-room
-sub-row-with-room c = search needs
+symbols-requires : tie.Need-symbols-requires
+symbols-requires c κs = search needs
 
-part-room-start : tie.Need-part-room-start
-part-room-start c = search needs
+references-requires : tie.Need-references-requires
+references-requires c κs =
+    let s = c .before .before .before .before .before .before .before .before .before .before in
+    let f = s .pre in
+    let e = c .before .before .before .before .symbols .ensures in (
+      f .phasors-ok,
+      row-of (s .args .sum) _ _ _ _ (f .layout) (f .markers-ok) (f .carrier) e,
+      f .refs-is ∙ sym (ap (λ (n : ℕ). 2 * n) (row-length (s .args .sum) _ _ _ _ (f .layout) (f .markers-ok) (f .carrier) e)),
+    )
 
-part-room-end : tie.Need-part-room-end
-part-room-end c = omega (arith, per-small (c .before .before .before .before .args .sum) _ (c .before .before .before .before .pre .layout))
-
-row-with-room-requires : tie.Need-row-with-room-requires
-row-with-room-requires c κs = search needs
+places-requires : tie.Need-places-requires
+places-requires c κs =
+    let s = c .before .before .before .before .before .before .before .before .before .before .before .before .before .before in
+    let f = s .pre in
+    (f .layout, row-of (s .args .sum) _ _ _ _ (f .layout) (f .markers-ok) (f .carrier) (c .before .before .before .before .before .before .before .before .symbols .ensures))
 
 same-length : tie.Need-same-length
 same-length c = search needs
@@ -24,16 +36,21 @@ same-length-2 : tie.Need-same-length-2
 same-length-2 c = search needs
 
 returns : tie.Need-returns
-returns c = search needs
+returns c =
+    let s = c .before .before .before .before .before .before .before .before .before .before .before .before .before .before .before .before .before .args in
+    let e = c .before .before .before .before .before .before .before .before .before .before .before .symbols .ensures in
+    record {
+      places = c .before .before .places .ensures ∙ ap (map (λ x. placeOf (s .sum) (s .l) (cellAt (s .c) x))) e;
+      references = c .before .before .before .before .before .before .references .ensures ∙ ap (λ (v : List ℕ). parts (map (referenceFor (s .sum) (s .l) (s .phasors .now) (s .c)) v)) e;
+    }
 
 pub row-spec : {M : Type 1} → statement M
 row-spec =
     tie.close
     (tie.spec
-    sub-row-with-room
-    part-room-start
-    part-room-end
-    row-with-room-requires
+    symbols-requires
+    references-requires
+    places-requires
     same-length
     same-length-2
     returns)
