@@ -1,13 +1,12 @@
 // Steps of a reading in lent scratch: their turn, their size and their noise (01, "Reading"; eq.rs, and `coherence`
 // and `decode` of rx/psk.rs).
 ghost use mathlib.Core.Path.{_≡_};
-ghost use mathlib.Core.Bool.{cond};
 ghost use Prim.Native.Nat.{_+_, _*_, _<_, _≤_};
-ghost use lib.Dec.{ltb};
 ghost use lib.ListN.{length};
 ghost use Rattle.complex.specs.Arithmetic.{czero, cunscale};
 ghost use Rattle.complex.specs.Pairs.{cget, cfilled};
-ghost use Rattle.eq.specs.Steps.{coherentOf, coherenceOf, turnOf, stepOf, steppedOf, Preceded, Packed};
+ghost use Rattle.eq.specs.Steps.{coherentOf, coherenceOf, turnOf, steppedOf, Preceded, Packed};
+ghost use Rattle.eq.specs.Fill.{storedFrom, stepsFrom, Row};
 ghost use Rattle.eq.specs.Noise.{deviationOf, noiseOf, Inside};
 ghost use Rattle.demap.specs.Gain.{meanNorm};
 use complex::Complex;
@@ -43,50 +42,47 @@ pub fn turn(z: &[f64], marks: &[usize]) -> Complex
     root::unit(complex::conj(coherence(z, marks)))
 }
 
-// The step from the symbol at a place to the next, turned by r.
-fn step(z: &[f64], at: usize, r: Complex) -> Complex
-    requires { ⌜ 2 * at + 3 < length (now z) ⌝ }
-    ensures { λ w. ⌜ w ≡ stepOf (now (z .entry)) r at ⌝ }
+// A carrier's steps, turned by r: `to` isn't behind `from`, so that no symbol is written over before it is read.
+fn pack_row(z: &mut [f64], from: usize, to: usize, steps: usize, r: Complex)
+    requires { ⌜ Row from to steps (length (now z)) ⌝ }
+    ensures { λ _. ⌜ now (z .exit) ≡ storedFrom (stepsFrom (now (z .entry)) r from) to steps (now (z .entry)) ⌝ }
 {
-    let before = complex::get(z, at);
-    let product = complex::mul(complex::get(z, at + 1), complex::conj(before));
-    complex::mul(product, r)
-}
-
-// What stands at place k once the n steps are packed: the step from the symbol at a place, or zero behind the last one.
-fn packed(z: &[f64], n: usize, k: usize, at: usize, r: Complex) -> Complex
-    requires { ⌜ (k < n → 2 * at + 3 < length (now z)) ⌝ }
-    ensures { λ w. ⌜ w ≡ cond (ltb k n) (stepOf (now (z .entry)) r at) czero ⌝ }
-{
-    if k < n {
-        return step(z, at, r);
+    let mut before = complex::get(z, from);
+    let mut k = 0;
+    while k < steps {
+        let next = complex::get(z, from + k + 1);
+        let product = complex::mul(next, complex::conj(before));
+        let w = complex::mul(product, r);
+        complex::put(z, to + k, w);
+        before = next;
+        k += 1;
     }
-    complex::zero()
 }
 
-// Symbols packed by carrier become steps packed by carrier, in place: each is made from places that aren't written
-// yet. `at` is the symbol that a step starts from, `left` the steps that its carrier still has: no division a step.
+// Zero at n places from a place on.
+fn clear(z: &mut [f64], at: usize, n: usize)
+    requires { ⌜ 2 * (at + n) ≤ length (now z) ⌝ }
+    ensures { λ _. ⌜ now (z .exit) ≡ storedFrom (λ _. czero) at n (now (z .entry)) ⌝ }
+{
+    let mut k = 0;
+    while k < n {
+        complex::put(z, at + k, complex::zero());
+        k += 1;
+    }
+}
+
+// Symbols packed by carrier become steps packed by carrier, in place: one less of each, so that nc places are left.
 pub fn pack_steps(z: &mut [f64], nc: usize, nsym: usize, r: Complex)
     requires { ⌜ Packed nc nsym (length (now z)) ⌝ }
     ensures { λ _. ⌜ now (z .exit) ≡ steppedOf (now (z .entry)) nc nsym r ⌝ }
 {
     let steps = nsym - 1;
-    let n = nc * steps;
-    let all = nc * nsym;
-    let mut at = 0;
-    let mut left = steps;
-    let mut k = 0;
-    while k < all {
-        let w = packed(z, n, k, at, r);
-        complex::put(z, k, w);
-        at += 1;
-        left -= 1;
-        if left == 0 {
-            at += 1;
-            left = steps;
-        }
-        k += 1;
+    let mut c = 0;
+    while c < nc {
+        pack_row(z, c * nsym, c * steps, steps, r);
+        c += 1;
     }
+    clear(z, nc * steps, nc);
 }
 
 // The mean norm of the first n steps.
@@ -100,7 +96,8 @@ pub fn mean_norm(steps: &[f64], n: usize) -> f64
 // Divides the first n steps by g.
 pub fn divide(steps: &mut [f64], n: usize, g: f64)
     requires { ⌜ 2 * n ≤ length (now steps) ⌝ }
-    ensures { λ _. ⌜ now (steps .exit) ≡ cfilled (λ k. cunscale (cget (now (steps .entry)) k) g) n (now (steps .entry)) ⌝ }
+    ensures { λ _. ⌜ now (steps .exit)
+        ≡ cfilled (λ k. cunscale (cget (now (steps .entry)) k) g) n (now (steps .entry)) ⌝ }
 {
     let mut k = 0;
     while k < n {
