@@ -18,7 +18,7 @@ use Rattle.level.specs.declared.Layout.{Layout}
 use Rattle.level.specs.Layout.{chosen}
 use Rattle.level.specs.Lengths.{audioLength}
 use Rattle.level.specs.RowLaws.{is-layout}
-use Rattle.nco.proofs.RowsLaws.{row-within, rows-at}
+use Rattle.complex.specs.Rows.{row-within, rows-at}
 use Rattle.nco.specs.Phase.{carrierPhase, phasesAfter, phaseRows}
 use Rattle.nco.proofs.PhaseLaws.{carrier-join, phases-join}
 use Rattle.refusal.specs.declared.Answer.the-variants.{Done}

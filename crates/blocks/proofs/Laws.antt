@@ -1,31 +1,21 @@
 -- Blocks of sums: each sum of a block is by itself what it would be alone. Assumes nothing.
 use Prim.Native.Nat.{ℕ, zero, suc, _+_, _-_, _*_, _/_, _%_, _<_, _≤_}
 use mathlib.Core.Path.{_≡_, refl, sym, ap, _∙_}
-use mathlib.Core.List.{List, _++_}
+use mathlib.Core.List.{List}
 use native.Mathlib.Omega.{arith}
-use native.Mathlib.Nat.{add-zero, add-suc, suc-mul, mul-le-mul-right}
+use native.Mathlib.Nat.{add-zero, add-suc}
 use native.Mathlib.Numerals.{add-one}
 use lib.ListN.{length, getD, take, drop, set}
-use lib.Seq.{getD-append-add, getD-drop, getD-take}
+use lib.Seq.{getD-drop, getD-take}
 use lib.Ieee.{Float, nan}
 use Rattle.complex.specs.declared.Complex.{Complex}
 use Rattle.complex.specs.Arithmetic.{czero, cadd, cmul}
-use Rattle.complex.specs.Lists.{tabulate, filled}
-use Rattle.complex.specs.ListLaws.{length-tabulate, filled-none, filled-length, filled-step, filled-at}
+use Rattle.complex.specs.Lists.{filled}
+use Rattle.complex.specs.ListLaws.{filled-none, filled-length, filled-step, filled-at, filled-rest}
 use Rattle.complex.specs.Sums.{sumTo}
 use Rattle.complex.specs.Pairs.{cget}
 use Rattle.chi.specs.Dot.{dotTerm, dotAt}
 use Rattle.blocks.specs.Planes.{pget, Planes, addTo, Added, Zeros, Dots, planeTerm, CarrierFits, rowOf}
-
--- an entry behind those that a loop has filled
-filled-past {ℓ} : {A : Type ℓ} (f : ℕ → A) (n k : ℕ) (l : List A) (d : A) → n ≤ k → getD (filled f n l) k d ≡ getD l k d
-unfolding filled
-filled-past f n k l d h =
-    let len = length-tabulate f n in
-    let e : length (tabulate f n) + (k - n) ≡ k = omega arith in
-    let g : n + (k - n) ≡ k = omega arith in
-    ap (λ (i : ℕ). getD (tabulate f n ++ drop n l) i d) (sym e)
-    ∙ getD-append-add (tabulate f n) (drop n l) (k - n) d ∙ getD-drop n l (k - n) d ∙ ap (λ (i : ℕ). getD l i d) g
 
 -- ---- a loop that fills two planes: before it, what it reads, a turn of it, after it
 pub planes-none : (f : ℕ → Complex) (re im : List Float) → Planes f 0 re im re im
@@ -33,8 +23,8 @@ planes-none f re im = record { reals = filled-none _ re; imags = filled-none _ i
 
 pub planes-past : (f : ℕ → Complex) (n k : ℕ) (re₀ im₀ re im : List Float) → Planes f n re₀ im₀ re im → n ≤ k → pget re im k ≡ pget re₀ im₀ k
 planes-past f n k re₀ im₀ re im p h =
-    let a : getD re k nan ≡ getD re₀ k nan = ap (λ (l : List Float). getD l k nan) (p .reals) ∙ filled-past (λ j. f j .re) n k re₀ nan h in
-    let b : getD im k nan ≡ getD im₀ k nan = ap (λ (l : List Float). getD l k nan) (p .imags) ∙ filled-past (λ j. f j .im) n k im₀ nan h in
+    let a : getD re k nan ≡ getD re₀ k nan = ap (λ (l : List Float). getD l k nan) (p .reals) ∙ filled-rest (λ j. f j .re) n k re₀ nan h in
+    let b : getD im k nan ≡ getD im₀ k nan = ap (λ (l : List Float). getD l k nan) (p .imags) ∙ filled-rest (λ j. f j .im) n k im₀ nan h in
     simp (a, b)
 
 pub planes-more : (f : ℕ → Complex) (n : ℕ) (re₀ im₀ re im re′ im′ : List Float) (z : Complex) → Planes f n re₀ im₀ re im
@@ -157,13 +147,6 @@ row-is per c xs =
 pub row-fits : {memory n n′ refs refs′ at zr zr′ zi zi′ : ℕ} {offs offs′ : List ℕ} → CarrierFits memory n offs refs at zr zi
     → n′ ≡ n → offs′ ≡ offs → refs′ ≡ refs → zr′ ≡ zr → zi′ ≡ zi → CarrierFits memory n′ offs′ refs′ at zr′ zi′
 row-fits f a b d e g = rw (a, b, d, e, g) f
-
--- row c stands inside a table of n rows
-pub row-inside : (c n per : ℕ) → c < n → c * per + per ≤ n * per
-row-inside c n per h =
-    let a : suc c * per ≤ n * per = mul-le-mul-right per h in
-    let b : suc c * per ≡ c * per + per = suc-mul c per in
-    omega arith
 
 -- the terms of a row are the table's from its first on
 pub row-term : (memory : List Float) (offs : List ℕ) (refs : List Float) (k n m at i : ℕ) → i < n → m ≡ 2 * n

@@ -1,15 +1,15 @@
 -- Rows of tables: a loop over a row makes a map of it, and row after row makes the table. Assumes nothing.
 use Prim.Native.Nat.{ℕ, suc, _+_, _*_, _≤_, _<_}
 use mathlib.Core.Path.{_≡_, refl, sym, ap, _∙_}
-use mathlib.Core.List.{List, _++_, map, append-nil}
+use mathlib.Core.List.{List, map, append-nil}
 use native.Mathlib.Nat.{mul-le-mul, mul-le-mul-right, suc-mul}
 use native.Mathlib.Omega.{arith}
-use lib.ListN.{length, getD, drop, length-map, List·getD-map, drop-of-length-le}
-use lib.Seq.{getD-append-add, getD-drop, ext-getD}
+use lib.ListN.{length, getD, length-map, List·getD-map, drop-of-length-le}
+use lib.Seq.{ext-getD}
 use lib.Ieee.{Float}
 use Rattle.complex.specs.declared.Complex.{Complex}
 use Rattle.complex.specs.Lists.{tabulate, filled}
-use Rattle.complex.specs.ListLaws.{length-tabulate, getD-tabulate, tabulate-ext}
+use Rattle.complex.specs.ListLaws.{length-tabulate, getD-tabulate, tabulate-ext, filled-rest}
 use Rattle.complex.specs.Pairs.{parts, cfilled}
 use Rattle.level.specs.declared.Layout.{Layout}
 use Rattle.level.specs.Rows.{IsLayout}
@@ -33,12 +33,7 @@ tabulate-map f xs d =
 
 -- the next entry of a slice that a loop fills
 pub filled-next {ℓ} : {A : Type ℓ} (f : ℕ → A) (n : ℕ) (l m : List A) (d : A) → m ≡ filled f n l → getD m n d ≡ getD l n d
-unfolding filled
-filled-next f n l m d e =
-    let a : n ≡ length (tabulate f n) + 0 = omega (arith, length-tabulate f n) in
-    let z : n + 0 ≡ n = omega arith in
-    ap (λ (x : List _). getD x n d) e ∙ ap (λ (j : ℕ). getD (tabulate f n ++ drop n l) j d) a
-    ∙ getD-append-add (tabulate f n) (drop n l) 0 d ∙ getD-drop n l 0 d ∙ ap (λ (j : ℕ). getD l j d) z
+filled-next f n l m d e = ap (λ (x : List _). getD x n d) e ∙ filled-rest f n n l d (omega arith)
 
 -- a slice of parts that is filled to its end
 pub cfilled-all : (f : ℕ → Complex) (n : ℕ) (l : List Float) → length l ≡ 2 * n → cfilled f n l ≡ parts (tabulate f n)

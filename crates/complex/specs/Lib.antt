@@ -5,4 +5,6 @@ pub mod Sums
 pub mod SumLaws
 pub mod Pairs
 pub mod PairLaws
+pub mod Stored
+pub mod StoredLaws
 pub mod Rows

@@ -1,13 +1,13 @@
 -- What loops cite of such lists. Assumes nothing.
-use Prim.Native.Nat.{ℕ, zero, suc, _+_, _<_, _≤_}
-use mathlib.Core.Path.{_≡_, refl, sym, _∙_}
+use Prim.Native.Nat.{ℕ, zero, suc, _+_, _-_, _<_, _≤_}
+use mathlib.Core.Path.{_≡_, refl, sym, ap, _∙_}
 use mathlib.Core.List.{List, [], _∷_, _++_, map, append-assoc, append-nil}
 use mathlib.Core.Logic.{⊎-elim}
 use native.Mathlib.Omega.{arith}
 use native.Mathlib.Nat.{eq-or-lt-of-le, le-of-suc-le-suc}
 use native.Mathlib.Numerals.{add-one}
 use lib.ListN.{length, getD, drop, set, length-append, length-drop, List·getD-append}
-use lib.Seq.{drop-cons, drop-length, set-at, getD-at, ext-getD}
+use lib.Seq.{drop-cons, drop-length, set-at, getD-at, getD-append-add, getD-drop, ext-getD}
 use Rattle.complex.specs.Lists.{tabulate, filled, Each}
 
 pub length-tabulate {ℓ} : {A : Type ℓ} (f : ℕ → A) (n : ℕ) → length (tabulate f n) ≡ n
@@ -63,6 +63,18 @@ unfolding filled
 filled-at f n k l d h =
     let g : k < length (tabulate f n) = omega (arith, length-tabulate f n) in
     List·getD-append (tabulate f n) (drop n l) d k g ∙ getD-tabulate f n k d h
+
+-- an entry behind those that are filled
+pub filled-rest {ℓ} : {A : Type ℓ} (f : ℕ → A) (n k : ℕ) (l : List A) (d : A) → n ≤ k
+    → getD (filled f n l) k d ≡ getD l k d
+unfolding filled
+filled-rest f n k l d h =
+    let e : k ≡ length (tabulate f n) + (k - n) = omega (arith, length-tabulate f n) in
+    let g : n + (k - n) ≡ k = omega arith in
+    ap (λ (j : ℕ). getD (tabulate f n ++ drop n l) j d) e
+    ∙ getD-append-add (tabulate f n) (drop n l) (k - n) d
+    ∙ getD-drop n l (k - n) d
+    ∙ ap (λ (j : ℕ). getD l j d) g
 
 pub filled-all {ℓ} : {A : Type ℓ} (f : ℕ → A) (l : List A) → filled f (length l) l ≡ tabulate f (length l)
 unfolding filled

@@ -18,8 +18,8 @@ use Rattle.level.specs.declared.Layout.{Layout}
 use Rattle.level.specs.RowLaws.{is-layout}
 use Rattle.level.specs.Sized.{Sized}
 use Rattle.level.specs.SizedLaws.{sized}
-use Rattle.nco.specs.Rows.{rows}
-use Rattle.nco.proofs.RowsLaws.{length-rows, rows-at, row-within}
+use Rattle.complex.specs.Lists.{rows}
+use Rattle.complex.specs.Rows.{length-rows, rows-at, row-within}
 use Rattle.dat.specs.Tables.{value, flag, marked, wrongLength, badValue, wrongValue, badFlag, wrongFlag, markerFault}
 use Rattle.dat.specs.AcceptedLaws.{length-right}
 use Rattle.rnd.specs.Generator.{advance}

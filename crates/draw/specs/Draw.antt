@@ -10,7 +10,7 @@ use Rattle.refusal.specs.Any.{any}
 use Rattle.refusal.specs.Outcome.{Outcome, refused, answered, andThen}
 use Rattle.level.specs.declared.Layout.{Layout}
 use Rattle.dat.specs.Tables.{marked}
-use Rattle.nco.specs.Rows.{rows}
+use Rattle.complex.specs.Lists.{rows}
 use Rattle.rnd.specs.Generator.{advance, draw}
 use Rattle.draw.specs.declared.Rows.{Rows}
 use Rattle.draw.specs.declared.Rows.the-variants.{Drawn, Spent}

@@ -9,7 +9,7 @@ use lib.Ieee.{Float, nan}
 use Rattle.complex.specs.Lists.{tabulate, filled}
 use Rattle.complex.specs.ListLaws.{getD-tabulate, tabulate-ext, filled-step, filled-all}
 use Rattle.level.specs.declared.Layout.{Layout}
-use Rattle.nco.proofs.RowsLaws.{filled-rest}
+use Rattle.complex.specs.ListLaws.{filled-rest}
 use Rattle.nco.specs.Phase.{phaseNext, phaseAfter, carrierStep, carrierPhase, phasesAfter}
 
 pub phase-none : (step phase : Float) → phase ≡ phaseAfter step phase 0

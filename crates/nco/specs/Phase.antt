@@ -9,7 +9,7 @@ use Rattle.complex.specs.Lists.{tabulate}
 use Rattle.level.specs.declared.Layout.{Layout}
 use Rattle.level.specs.Lengths.{carrierHz}
 use Rattle.taps.specs.PhaseSteps.{phaseStep, tau}
-use Rattle.nco.specs.Rows.{rows}
+use Rattle.complex.specs.Lists.{rows}
 
 -- a full turn is taken off where the sum exceeds it
 abbrev pub wrapped : Float → Float

@@ -1,4 +1,4 @@
-pub mod WrittenLaws
+pub mod StoredRows
 pub mod RunningLaws
 pub mod Rows
 pub mod Places

@@ -14,8 +14,9 @@ use Rattle.level.specs.declared.Layout.{Layout}
 use Rattle.level.specs.Lengths.{rowLength}
 use Rattle.dat.specs.AcceptedLaws.{row-in}
 use Rattle.rows.specs.Symbols.{Sending, leadSymbol, frameSymbol, inRows, rowSymbol, rowsOf}
-use Rattle.rows.specs.Written.{written}
-use Rattle.rows.proofs.WrittenLaws.{written-step, written-ext, written-join, written-all, in-row}
+use Rattle.complex.specs.Stored.{storedFrom}
+use Rattle.complex.specs.StoredLaws.{stored-ext}
+use Rattle.rows.proofs.StoredRows.{stored-step, stored-on, stored-all, in-row}
 
 module _ (l : Layout) (m : Sending) (c : ℕ) where
   abbrev pub lead : ℕ → Complex
@@ -39,24 +40,24 @@ module _ (l : Layout) (m : Sending) (c : ℕ) where
   row-end = rw (le-ltb (8 + m .frames * l .nsym) 8 (omega arith), le-ltb (8 + m .frames * l .nsym) (8 + m .frames * l .nsym) (omega arith)) refl
 
   -- the leads, then the frames, then the zero
-  pub row-written : (at : ℕ) (xs ys zs : List Float) → ys ≡ written lead at 8 xs → zs ≡ written (inRows (l .nsym) frame) (at + 8) (m .frames * l .nsym) ys
-      → cset zs (at + (8 + m .frames * l .nsym)) czero ≡ written (rowSymbol l m c) at (rowLength l (m .frames)) xs
+  pub row-written : (at : ℕ) (xs ys zs : List Float) → ys ≡ storedFrom lead at 8 xs → zs ≡ storedFrom (inRows (l .nsym) frame) (at + 8) (m .frames * l .nsym) ys
+      → cset zs (at + (8 + m .frames * l .nsym)) czero ≡ storedFrom (rowSymbol l m c) at (rowLength l (m .frames)) xs
   unfolding rowLength
   row-written at xs ys zs e g =
       let n : ℕ = m .frames * l .nsym in
-      let a : ys ≡ written (rowSymbol l m c) at 8 xs = e ∙ written-ext lead (rowSymbol l m c) at 8 xs (λ k h. sym (row-lead k h)) in
-      let b : zs ≡ written (rowSymbol l m c) at (8 + n) xs =
-      g ∙ ap (λ (t : List Float). written (inRows (l .nsym) frame) (at + 8) n t) a
-      ∙ written-ext (inRows (l .nsym) frame) (λ k. rowSymbol l m c (8 + k)) (at + 8) n _ (λ k h. sym (row-frames k h))
-      ∙ written-join (rowSymbol l m c) at 8 n xs in
+      let a : ys ≡ storedFrom (rowSymbol l m c) at 8 xs = e ∙ stored-ext lead (rowSymbol l m c) at 8 xs (λ k h. sym (row-lead k h)) in
+      let b : zs ≡ storedFrom (rowSymbol l m c) at (8 + n) xs =
+      g ∙ ap (λ (t : List Float). storedFrom (inRows (l .nsym) frame) (at + 8) n t) a
+      ∙ stored-ext (inRows (l .nsym) frame) (λ k. rowSymbol l m c (8 + k)) (at + 8) n _ (λ k h. sym (row-frames k h))
+      ∙ stored-on (rowSymbol l m c) at 8 n xs in
       let s : 8 + n + 1 ≡ 9 + n = omega arith in
-      ap (cset zs (at + (8 + n))) (sym row-end) ∙ written-step (rowSymbol l m c) at (8 + n) xs zs b ∙ ap (λ (k : ℕ). written (rowSymbol l m c) at k xs) s
+      ap (cset zs (at + (8 + n))) (sym row-end) ∙ stored-step (rowSymbol l m c) at (8 + n) xs zs b ∙ ap (λ (k : ℕ). storedFrom (rowSymbol l m c) at k xs) s
 
 -- all rows
 pub rows-written : (l : Layout) (m : Sending) (xs ys : List Float) → length xs ≡ 2 * (l .nc * rowLength l (m .frames))
-    → ys ≡ written (inRows (rowLength l (m .frames)) (rowSymbol l m)) 0 (l .nc * rowLength l (m .frames)) xs → ys ≡ rowsOf l m
+    → ys ≡ storedFrom (inRows (rowLength l (m .frames)) (rowSymbol l m)) 0 (l .nc * rowLength l (m .frames)) xs → ys ≡ rowsOf l m
 unfolding rowsOf
-rows-written l m xs ys h e = e ∙ written-all (inRows (rowLength l (m .frames)) (rowSymbol l m)) (l .nc * rowLength l (m .frames)) xs h
+rows-written l m xs ys h e = e ∙ stored-all (inRows (rowLength l (m .frames)) (rowSymbol l m)) (l .nc * rowLength l (m .frames)) xs h
 
 -- ---- reading the rows
 -- entry k of carrier c stands at c × L + k

@@ -8,7 +8,7 @@ ghost use Rattle.level.specs.Lengths.{rowLength};
 ghost use Rattle.level.specs.Rows.{IsLayout};
 ghost use Rattle.rows.specs.Symbols.{sending, symbolOf, leadSymbol, frameSymbol, inRows, rowSymbol, rowsOf};
 ghost use Rattle.rows.specs.Running.{startOf, advanced};
-ghost use Rattle.rows.specs.Written.{written};
+ghost use Rattle.complex.specs.Stored.{storedFrom};
 ghost use Rattle.rows.specs.Accepted.{Drawn, LeadReady, FrameReady, CellReady, Ready};
 use complex::Complex;
 use level::Layout;
@@ -46,7 +46,7 @@ fn drawn(l: Layout, draws: &[u8], i: usize) -> Complex
 fn put_lead(l: Layout, phasors: &[f64], frames: usize, draws: &[u8], c: usize, rows: &mut [f64])
     requires { ⌜ LeadReady l (now phasors) frames (now draws) c (length (now rows)) ⌝ }
     ensures { λ _. ⌜
-        now (rows .exit) ≡ written (leadSymbol l (now (phasors .entry)) frames (now (draws .entry)) c)
+        now (rows .exit) ≡ storedFrom (leadSymbol l (now (phasors .entry)) frames (now (draws .entry)) c)
         (c * rowLength l frames) 8 (now (rows .entry))
         ⌝ }
 {
@@ -101,7 +101,7 @@ fn put_frame(
 )
     requires { ⌜ FrameReady l (now markers) (now phasors) (now payload) (now draws) c f at (length (now rows)) ⌝ }
     ensures { λ _. ⌜
-        now (rows .exit) ≡ written (frameSymbol l (now (markers .entry)) (now (phasors .entry)) (now (payload .entry))
+        now (rows .exit) ≡ storedFrom (frameSymbol l (now (markers .entry)) (now (phasors .entry)) (now (payload .entry))
         (now (draws .entry)) c f) at (l .nsym) (now (rows .entry))
         ⌝ }
 {
@@ -133,7 +133,7 @@ fn put_frames(
         × (c < l .nc)
         ⌝ }
     ensures { λ _. ⌜
-        now (rows .exit) ≡ written (inRows (l .nsym)
+        now (rows .exit) ≡ storedFrom (inRows (l .nsym)
         (frameSymbol l (now (markers .entry)) (now (phasors .entry)) (now (payload .entry)) (now (draws .entry)) c))
         (c * rowLength l frames + 8) (frames * l .nsym) (now (rows .entry))
         ⌝ }
@@ -172,7 +172,7 @@ fn put_row(
         × (c < l .nc)
         ⌝ }
     ensures { λ _. ⌜
-        now (rows .exit) ≡ written (rowSymbol l (sending (now (markers .entry)) (now (phasors .entry)) frames
+        now (rows .exit) ≡ storedFrom (rowSymbol l (sending (now (markers .entry)) (now (phasors .entry)) frames
         (now (payload .entry)) (now (draws .entry))) c) (c * rowLength l frames) (rowLength l frames)
         (now (rows .entry))
         ⌝ }

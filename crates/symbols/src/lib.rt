@@ -7,7 +7,7 @@ ghost use Rattle.complex.specs.Lists.{tabulate};
 ghost use Rattle.complex.specs.Pairs.{parts};
 ghost use Rattle.level.specs.Lengths.{memoryLength};
 ghost use Rattle.dat.specs.Accepted.{Phasors};
-ghost use Rattle.turned.specs.Turned.{storedFrom};
+ghost use Rattle.complex.specs.Stored.{storedFrom};
 ghost use Rattle.symbols.specs.Symbols.{symbolsAt};
 ghost use Rattle.symbols.specs.Standing.{samplesIn, filteredIn, placeOf, filteredIth, filteredFrom};
 ghost use Rattle.symbols.specs.Standing.{FilteredFit, SymbolsFit};

@@ -1,5 +1,5 @@
 -- Turned samples and the symbols of them, as the code cuts it. Definitions only.
-use Prim.Native.Nat.{ℕ, zero, suc, _+_, _*_, _≤_}
+use Prim.Native.Nat.{ℕ, _+_, _*_, _≤_}
 use mathlib.Core.List.{List}
 use lib.Ieee.{Float}
 use Rattle.complex.specs.declared.Complex.{Complex}
@@ -44,11 +44,6 @@ fourStored phasors at four m =
     (cset m at (cmul (four .first) (cget phasors at))) (at + 1) (cmul (four .second) (cget phasors (at + 1))))
     (at + 2) (cmul (four .third) (cget phasors (at + 2))))
     (at + 3) (cmul (four .fourth) (cget phasors (at + 3)))
-
--- a list of parts with g 0 up to g (n - 1) stored from place `at` on
-unfoldable pub storedFrom : (ℕ → Complex) → ℕ → ℕ → List Float → List Float
-storedFrom g at zero m = m
-storedFrom g at (suc n) m = cset (storedFrom g at n m) (at + n) (g n)
 
 -- n symbols from place `at` on, of `v` f64 of turned samples, the first one's from place `from` on
 pub record PartFits (out v taps count from phasors at n : ℕ) : Type 0 where

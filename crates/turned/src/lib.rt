@@ -7,7 +7,8 @@ ghost use Rattle.complex.specs.Arithmetic.{czero, cmul};
 ghost use Rattle.complex.specs.Pairs.{cget, cset, cfilled};
 ghost use Rattle.fir.specs.Fir.{firAt};
 ghost use Rattle.turned.specs.Turned.{turnedBy, partSymbol, fourMore, fourApart, eightApart, fourStored};
-ghost use Rattle.turned.specs.Turned.{storedFrom, PartFits};
+ghost use Rattle.complex.specs.Stored.{storedFrom};
+ghost use Rattle.turned.specs.Turned.{PartFits};
 use complex::Complex;
 
 // The sums of four symbols.

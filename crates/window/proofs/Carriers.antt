@@ -16,7 +16,7 @@ use Rattle.complex.specs.ListLaws.{length-tabulate, tabulate-ext, getD-tabulate
 use Rattle.complex.specs.Pairs.{cget}
 use Rattle.level.specs.declared.Layout.{Layout}
 use Rattle.level.specs.Lengths.{carrierAudioLength}
-use Rattle.nco.proofs.RowsLaws.{filled-rest}
+use Rattle.complex.specs.ListLaws.{filled-rest}
 use Rattle.scatter.specs.Sums.{sumWhere}
 use Rattle.scatter.proofs.SumsLaws.{where-step}
 use Rattle.scatter.specs.Scatter.{sample}

@@ -16,7 +16,7 @@ use Rattle.level.specs.Lengths.{rowLength, audioLength}
 use Rattle.level.specs.Rows.{IsLayout}
 use Rattle.level.specs.SizedLaws.{sized, row-most}
 use Rattle.taps.specs.Taps.{senderTap}
-use Rattle.nco.proofs.RowsLaws.{row-within}
+use Rattle.complex.specs.Rows.{row-within}
 use Rattle.scatter.specs.Parts.{First, Covered}
 use Rattle.window.specs.Parts.{Row, Ready}
 use Rattle.scatter.proofs.Reach.{first-most}

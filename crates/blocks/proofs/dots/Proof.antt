@@ -7,7 +7,8 @@ use native.Mathlib.Omega.{arith}
 use lib.ListN.{length, take, drop, length-take, length-drop}
 use Rattle.chi.specs.Dot.{dotTerm}
 use Rattle.blocks.specs.Planes.{Added}
-use Rattle.blocks.proofs.Laws.{added-none, added-on, added-all, row-is, row-fits, row-inside, row-term}
+use Rattle.complex.specs.Rows.{row-within}
+use Rattle.blocks.proofs.Laws.{added-none, added-on, added-all, row-is, row-fits, row-term}
 use borrow.Author.Needs.{needs}
 use Rattle.blocks.proofs.dots.Statement.{statement}
 use Rattle.blocks.proofs.dots.Tie as tie
@@ -32,21 +33,21 @@ mul-k : tie.Need-mul-k Inv-loop μ-loop
 mul-k c =
     let s = c .before .before .before .before .before .before .before .before .before in
     let f = s .pre .2 in
-    let r = row-inside (c .before .loop .c) (s .args .carriers) (length (s .args .offs .now) / s .args .carriers) (omega arith) in
+    let r = row-within (c .before .loop .c) (s .args .carriers) (length (s .args .offs .now) / s .args .carriers) (omega arith) in
     omega (arith, f .offs-are)
 
 add-carrier : tie.Need-add-carrier Inv-loop μ-loop
 add-carrier c =
     let s = c .before .before .before .before .before .before .before .before .before .before .before in
     let f = s .pre .2 in
-    let r = row-inside (c .before .before .before .loop .c) (s .args .carriers) (length (s .args .offs .now) / s .args .carriers) (omega arith) in
+    let r = row-within (c .before .before .before .loop .c) (s .args .carriers) (length (s .args .offs .now) / s .args .carriers) (omega arith) in
     omega (arith, f .offs-are)
 
 mul-carrier : tie.Need-mul-carrier Inv-loop μ-loop
 mul-carrier c =
     let s = c .before .before .before .before .before .before .before .before .before .before .before in
     let f = s .pre .2 in
-    let r = row-inside (c .before .before .before .loop .c) (s .args .carriers) (length (s .args .offs .now) / s .args .carriers) (omega arith) in
+    let r = row-within (c .before .before .before .loop .c) (s .args .carriers) (length (s .args .offs .now) / s .args .carriers) (omega arith) in
     omega (arith, f .offs-are)
 
 sub-carrier : tie.Need-sub-carrier Inv-loop μ-loop
@@ -59,42 +60,42 @@ part-carrier-end : tie.Need-part-carrier-end Inv-loop μ-loop
 part-carrier-end c =
     let s = c .before .before .before .before .before .before .before .before .before .before .before in
     let f = s .pre .2 in
-    let r = row-inside (c .before .before .before .loop .c) (s .args .carriers) (length (s .args .offs .now) / s .args .carriers) (omega arith) in
+    let r = row-within (c .before .before .before .loop .c) (s .args .carriers) (length (s .args .offs .now) / s .args .carriers) (omega arith) in
     omega (arith, f .offs-are)
 
 mul-carrier-2 : tie.Need-mul-carrier-2 Inv-loop μ-loop
 mul-carrier-2 c =
     let s = c .before .before .before .before .before .before .before .before .before .before .before .before in
     let f = s .pre .2 in
-    let r = row-inside (c .before .before .before .before .loop .c) (s .args .carriers) (length (s .args .offs .now) / s .args .carriers) (omega arith) in
+    let r = row-within (c .before .before .before .before .loop .c) (s .args .carriers) (length (s .args .offs .now) / s .args .carriers) (omega arith) in
     omega (arith, f .offs-are, f .refs-are)
 
 mul-carrier-3 : tie.Need-mul-carrier-3 Inv-loop μ-loop
 mul-carrier-3 c =
     let s = c .before .before .before .before .before .before .before .before .before .before .before .before in
     let f = s .pre .2 in
-    let r = row-inside (c .before .before .before .before .loop .c) (s .args .carriers) (length (s .args .offs .now) / s .args .carriers) (omega arith) in
+    let r = row-within (c .before .before .before .before .loop .c) (s .args .carriers) (length (s .args .offs .now) / s .args .carriers) (omega arith) in
     omega (arith, f .offs-are, f .refs-are)
 
 mul-carrier-4 : tie.Need-mul-carrier-4 Inv-loop μ-loop
 mul-carrier-4 c =
     let s = c .before .before .before .before .before .before .before .before .before .before .before .before in
     let f = s .pre .2 in
-    let r = row-inside (c .before .before .before .before .loop .c) (s .args .carriers) (length (s .args .offs .now) / s .args .carriers) (omega arith) in
+    let r = row-within (c .before .before .before .before .loop .c) (s .args .carriers) (length (s .args .offs .now) / s .args .carriers) (omega arith) in
     omega (arith, f .offs-are, f .refs-are)
 
 add-carrier-2 : tie.Need-add-carrier-2 Inv-loop μ-loop
 add-carrier-2 c =
     let s = c .before .before .before .before .before .before .before .before .before .before .before .before in
     let f = s .pre .2 in
-    let r = row-inside (c .before .before .before .before .loop .c) (s .args .carriers) (length (s .args .offs .now) / s .args .carriers) (omega arith) in
+    let r = row-within (c .before .before .before .before .loop .c) (s .args .carriers) (length (s .args .offs .now) / s .args .carriers) (omega arith) in
     omega (arith, f .offs-are, f .refs-are)
 
 mul-carrier-5 : tie.Need-mul-carrier-5 Inv-loop μ-loop
 mul-carrier-5 c =
     let s = c .before .before .before .before .before .before .before .before .before .before .before .before in
     let f = s .pre .2 in
-    let r = row-inside (c .before .before .before .before .loop .c) (s .args .carriers) (length (s .args .offs .now) / s .args .carriers) (omega arith) in
+    let r = row-within (c .before .before .before .before .loop .c) (s .args .carriers) (length (s .args .offs .now) / s .args .carriers) (omega arith) in
     omega (arith, f .offs-are, f .refs-are)
 
 sub-carrier-2 : tie.Need-sub-carrier-2 Inv-loop μ-loop
@@ -107,14 +108,14 @@ part-carrier-end-2 : tie.Need-part-carrier-end-2 Inv-loop μ-loop
 part-carrier-end-2 c =
     let s = c .before .before .before .before .before .before .before .before .before .before .before .before in
     let f = s .pre .2 in
-    let r = row-inside (c .before .before .before .before .loop .c) (s .args .carriers) (length (s .args .offs .now) / s .args .carriers) (omega arith) in
+    let r = row-within (c .before .before .before .before .loop .c) (s .args .carriers) (length (s .args .offs .now) / s .args .carriers) (omega arith) in
     omega (arith, f .offs-are, f .refs-are)
 
 carrier-requires : tie.Need-carrier-requires Inv-loop μ-loop
 carrier-requires c κs =
     let s = c .before .before .before .before .before .before .before .before .before .before .before .before .before .before .before in
     let f = s .pre .2 in
-    let r = row-inside (c .before .before .before .before .before .before .before .loop .c) (s .args .carriers) (length (s .args .offs .now) / s .args .carriers) (omega arith) in
+    let r = row-within (c .before .before .before .before .before .before .before .loop .c) (s .args .carriers) (length (s .args .offs .now) / s .args .carriers) (omega arith) in
     let k = c .before .before .before .before .before .before .before .loop in
     let a = k .inv .3 in
     let per = length (s .args .offs .now) / s .args .carriers in (
@@ -132,7 +133,7 @@ loop-again : tie.Need-loop-again Inv-loop μ-loop
 loop-again c =
     let s = c .before .before .before .before .before .before .before .before .before .before .before .before .before .before .before .before .before .before .before .before .before .before .before .before in
     let f = s .pre .2 in
-    let r = row-inside (c .before .before .before .before .before .before .before .before .before .before .before .before .before .before .before .before .loop .c) (s .args .carriers) (length (s .args .offs .now) / s .args .carriers) (omega arith) in
+    let r = row-within (c .before .before .before .before .before .before .before .before .before .before .before .before .before .before .before .before .loop .c) (s .args .carriers) (length (s .args .offs .now) / s .args .carriers) (omega arith) in
     let k = c .before .before .before .before .before .before .before .before .before .before .before .before .before .before .before .before .loop in
     let a = s .args in
     let per = length (a .offs .now) / a .carriers in

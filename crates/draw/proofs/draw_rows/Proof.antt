@@ -7,7 +7,7 @@ use lib.ListN.{length}
 use Rattle.level.specs.declared.Layout.{Layout}
 use Rattle.level.specs.Sized.{Sized}
 use borrow.Rule.Slice.PartMut.{same-len-mid}
-use Rattle.nco.proofs.RowsLaws.{row-within, row-length}
+use Rattle.complex.specs.Rows.{row-within, row-length}
 use Rattle.draw.specs.declared.Rows.{Rows}
 use Rattle.draw.specs.Draw.{rowsOutcome}
 use Rattle.draw.proofs.RowsLaws.{Collected, collected-none, collected-more, rows-spent, rows-drawn}

@@ -9,7 +9,7 @@ use Rattle.complex.specs.Lists.{tabulate}
 use Rattle.complex.specs.ListLaws.{length-tabulate}
 use Rattle.level.specs.declared.Layout.{Layout}
 use Rattle.level.specs.Sized.{Sized}
-use Rattle.nco.proofs.RowsLaws.{row-within}
+use Rattle.complex.specs.Rows.{row-within}
 use Rattle.draw.proofs.FlagLaws.{flagBefore, before-none, before-more, before-all}
 use Rattle.draw.proofs.flag_row.Statement.{statement}
 use Rattle.draw.proofs.flag_row.Tie as tie

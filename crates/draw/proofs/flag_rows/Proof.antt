@@ -7,8 +7,8 @@ use lib.ListN.{length}
 use borrow.Rule.Slice.PartMut.{same-len-mid}
 use Rattle.level.specs.declared.Layout.{Layout}
 use Rattle.level.specs.Sized.{Sized}
-use Rattle.nco.specs.Rows.{rows, rowsFilled}
-use Rattle.nco.proofs.RowsLaws.{rows-none, rows-turn, rows-all, row-within, row-length}
+use Rattle.complex.specs.Lists.{rows, rowsFilled}
+use Rattle.complex.specs.Rows.{rows-none, rows-turn, rows-all, row-within, row-length}
 use Rattle.draw.specs.Draw.{flagOf, flagRows}
 use native.Mathlib.Omega.{arith}
 use Rattle.draw.proofs.flag_rows.Statement.{statement}

@@ -1,12 +1,11 @@
 -- `drift::carrier_symbols` meets its contract: a turn stores the symbols of one part more. Assumes nothing.
-use Prim.Native.Nat.{ℕ, _+_, _-_, _*_, _≤_}
+use Prim.Native.Nat.{_-_, _*_, _≤_}
 use mathlib.Core.Path.{_≡_, refl, ap, _∙_}
 use native.Mathlib.Nat.{add-assoc}
 use lib.ListN.{length}
-use Rattle.turned.specs.Turned.{storedFrom}
+use Rattle.complex.specs.Stored.{storedFrom}
 use Rattle.drift.specs.Rows.{driftIth, driftFrom}
-use Rattle.turned.specs.StoredLaws.{stored-none, stored-join, stored-length}
-use borrow.Author.Needs.{needs}
+use Rattle.complex.specs.StoredLaws.{stored-none, stored-join, stored-length}
 use native.Mathlib.Omega.{arith}
 use Rattle.drift.proofs.carrier_symbols.Statement.{statement}
 use Rattle.drift.proofs.carrier_symbols.Tie as tie

@@ -8,7 +8,7 @@ use Rattle.level.specs.SizedLaws.{sized}
 use Rattle.dat.specs.AcceptedLaws.{row-in}
 use Rattle.eq.specs.Fill.{Filling, filling-all}
 use Rattle.drift.specs.Rows.{driftIth}
-use Rattle.turned.specs.StoredLaws.{filling-rows, filling-row}
+use Rattle.turned.specs.PartLaws.{filling-rows, filling-row}
 use Rattle.drift.proofs.drift_symbols.Statement.{statement}
 use Rattle.drift.proofs.drift_symbols.Tie as tie
 

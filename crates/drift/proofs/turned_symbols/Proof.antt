@@ -10,7 +10,7 @@ use Rattle.drift.specs.Drift.{driftLength}
 use Rattle.turned.specs.Turned.{turnedBy}
 use Rattle.drift.specs.Rows.{samplesIn, driftFrom}
 use Rattle.drift.specs.DriftLaws.{part-few, row-most, rows-small}
-use Rattle.turned.specs.StoredLaws.{stored-ext}
+use Rattle.complex.specs.StoredLaws.{stored-ext}
 use Rattle.drift.specs.DriftLaws.{drift-ith}
 use native.Mathlib.Omega.{arith}
 use native.Mathlib.Omega.{arith}
@@ -149,7 +149,7 @@ returns c =
     ∙ ap₂ (λ (d g : ℕ). cfilled (turnedBy (a .drift .now) (a .c * d + (g + 32 * a .s + 1)) (samplesIn (a .l) (a .memory .now) (a .samples)) (a .t - a .l .delay - 1 + (g + 32 * a .s + 1))) (32 * (a .n - 1) + a .l .taps) (a .v .now))
     (c .before .before .before .before .before .before .before .before .before .before .drift-length .ensures) (c .before .before .before .before .before .before .before .before .before .before .before .before .before .stagger .ensures) in
     c .before .before .part-symbols .ensures
-    ∙ stored-ext (driftFrom (a .l) (a .memory .now) (a .phasors .now) (a .samples) (a .drift .now) (a .t) (a .c * a .l .nsym + a .s)) _ _ _ _
+    ∙ stored-ext _ (driftFrom (a .l) (a .memory .now) (a .phasors .now) (a .samples) (a .drift .now) (a .t) (a .c * a .l .nsym + a .s)) _ _ _
     (drift-ith (a .l) (a .memory .now) (a .phasors .now) (a .t) (a .samples) (a .drift .now) (a .taps .now) _ _ (a .c) (a .s) (a .n) (p .4 .within) (p .3) v)
 
 pub turned-symbols-spec : {M : Type 1} → statement M

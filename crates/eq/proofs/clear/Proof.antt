@@ -4,7 +4,8 @@ use mathlib.Core.Path.{_≡_, ap, _∙_}
 use borrow.Author.Needs.{needs}
 use native.Mathlib.Omega.{arith}
 use Rattle.complex.specs.Arithmetic.{czero}
-use Rattle.eq.specs.Fill.{storedFrom, stored-none, stored-more, stored-long}
+use Rattle.complex.specs.Stored.{storedFrom}
+use Rattle.complex.specs.StoredLaws.{stored-none, stored-more, stored-long}
 use Rattle.eq.proofs.clear.Statement.{statement}
 use Rattle.eq.proofs.clear.Tie as tie
 

@@ -1,8 +1,8 @@
 -- `nco::phase_rows` meets its contract: the rows of the carriers passed, and their phases after the window. Assumes nothing.
 use Rattle.complex.specs.Lists.{tabulate, filled}
 use Rattle.complex.specs.ListLaws.{filled-none, tabulate-ext}
-use Rattle.nco.specs.Rows.{rows, rowsFilled}
-use Rattle.nco.proofs.RowsLaws.{rows-none, rows-turn, rows-all, row-within, row-length}
+use Rattle.complex.specs.Lists.{rows, rowsFilled}
+use Rattle.complex.specs.Rows.{rows-none, rows-turn, rows-all, row-within, row-length}
 use Rattle.nco.specs.Phase.{phaseAfter, carrierPhase, phaseRows}
 use Rattle.nco.proofs.PhaseLaws.{phase-still, phases-turn, phases-done}
 use borrow.Rule.Slice.PartMut.{same-len-mid}

@@ -15,8 +15,9 @@ use Rattle.rows.specs.declared.Running.{Running}
 use Rattle.rows.specs.Symbols.{runningPoint, symbolOf, frameSymbol}
 use Rattle.rows.specs.Running.{runningAt, advanced}
 use Rattle.rows.proofs.RunningLaws.{start-is, advanced-is}
-use Rattle.rows.specs.Written.{written}
-use Rattle.rows.proofs.WrittenLaws.{written-none, written-step, written-length, written-first}
+use Rattle.complex.specs.Stored.{storedFrom}
+use Rattle.complex.specs.StoredLaws.{stored-none, stored-length}
+use Rattle.rows.proofs.StoredRows.{stored-step, stored-first}
 use Rattle.rows.specs.Accepted.{FrameReady, CellReady}
 use Rattle.rows.proofs.Places.{phasors-small, cell-ready}
 use Rattle.rows.proofs.put_frame.Statement.{statement}
@@ -44,27 +45,27 @@ module _ (l : Layout) (markers : List ℕ) (phasors : List Float) (payload draws
   next-phasor k K = phasor-in l phasors c (k + 1) (r .phasors-ok) (r .carrier) (omega arith)
 
 module _ (l : Layout) (markers : List ℕ) (phasors : List Float) (payload draws : List ℕ) (c f at : ℕ) where
-  turn : (k : ℕ) (xs ys zs : List Float) (q : Running) → ys ≡ written (λ i. frameSymbol l markers phasors payload draws c f (i + 1)) (at + 1) k xs
+  turn : (k : ℕ) (xs ys zs : List Float) (q : Running) → ys ≡ storedFrom (λ i. frameSymbol l markers phasors payload draws c f (i + 1)) (at + 1) k xs
       → q ≡ runningAt l markers payload draws f c (k + 1) → zs ≡ cset ys (at + (k + 1)) (symbolOf (q .d) (cget phasors (c * l .nsym + (k + 1))))
-      → zs ≡ written (λ i. frameSymbol l markers phasors payload draws c f (i + 1)) (at + 1) (k + 1) xs
+      → zs ≡ storedFrom (λ i. frameSymbol l markers phasors payload draws c f (i + 1)) (at + 1) (k + 1) xs
   unfolding frameSymbol runningAt
   turn k xs ys zs q e g h =
       let a : at + (k + 1) ≡ at + 1 + k = omega arith in
       h ∙ ap (λ (x : Running). cset ys (at + (k + 1)) (symbolOf (x .d) (cget phasors (c * l .nsym + (k + 1))))) g
       ∙ ap (λ (p : ℕ). cset ys p (frameSymbol l markers phasors payload draws c f (k + 1))) a
-      ∙ written-step (λ i. frameSymbol l markers phasors payload draws c f (i + 1)) (at + 1) k xs ys e
+      ∙ stored-step (λ i. frameSymbol l markers phasors payload draws c f (i + 1)) (at + 1) k xs ys e
 
   all : (k : ℕ) (xs ys zs : List Float) (q : Running) → k + 1 ≡ l .nsym → q ≡ runningAt l markers payload draws f c 0
-      → ys ≡ cset xs at (symbolOf (q .d) (cget phasors (c * l .nsym))) → zs ≡ written (λ i. frameSymbol l markers phasors payload draws c f (i + 1)) (at + 1) k ys
-      → zs ≡ written (frameSymbol l markers phasors payload draws c f) at (l .nsym) xs
+      → ys ≡ cset xs at (symbolOf (q .d) (cget phasors (c * l .nsym))) → zs ≡ storedFrom (λ i. frameSymbol l markers phasors payload draws c f (i + 1)) (at + 1) k ys
+      → zs ≡ storedFrom (frameSymbol l markers phasors payload draws c f) at (l .nsym) xs
   unfolding frameSymbol runningAt
   all k xs ys zs q n e g h =
       let first : ys ≡ cset xs at (frameSymbol l markers phasors payload draws c f 0) =
       g ∙ ap (λ (x : Running). cset xs at (symbolOf (x .d) (cget phasors (c * l .nsym)))) e ∙ ap (λ (i : ℕ). cset xs at (symbolOf (runningPoint l markers payload draws f c 0) (cget phasors i))) (sym (add-zero (c * l .nsym))) in
-      written-first (frameSymbol l markers phasors payload draws c f) at k xs ys zs first h ∙ ap (λ (m : ℕ). written (frameSymbol l markers phasors payload draws c f) at m xs) n
+      stored-first (frameSymbol l markers phasors payload draws c f) at k xs ys zs first h ∙ ap (λ (m : ℕ). storedFrom (frameSymbol l markers phasors payload draws c f) at m xs) n
 
 abbrev Inv-loop : tie.InvT-loop
-Inv-loop l markers phasors payload draws c f at rows₀ from last r₀ k₀ rows r k = (k ≤ last) × (length rows ≡ length rows₀) × (r ≡ runningAt l markers payload draws f c k) × (rows ≡ written (λ i. frameSymbol l markers phasors payload draws c f (i + 1)) (at + 1) k rows₀)
+Inv-loop l markers phasors payload draws c f at rows₀ from last r₀ k₀ rows r k = (k ≤ last) × (length rows ≡ length rows₀) × (r ≡ runningAt l markers payload draws f c k) × (rows ≡ storedFrom (λ i. frameSymbol l markers phasors payload draws c f (i + 1)) (at + 1) k rows₀)
 
 abbrev μ-loop : tie.MeasureT-loop
 μ-loop l markers phasors payload draws c f at rows₀ from last r₀ k₀ rows r k = last - k
@@ -82,7 +83,7 @@ put-symbol-requires : tie.Need-put-symbol-requires Inv-loop μ-loop
 put-symbol-requires c κs = let s = c .before .before .before .before .before .before .before .before .before in (first-room _ _ _ _ _ _ _ _ _ (s .pre), first-phasor _ _ _ _ _ _ _ _ _ (s .pre))
 
 loop-holds : tie.Need-loop-holds Inv-loop μ-loop
-loop-holds c = let s = c .before .before .before .before .before .before .before .before .before .before .before .before in (omega arith, refl, c .before .before .before .before .start .ensures ∙ start-is _ _ _ _ _ _, written-none _ _ _)
+loop-holds c = let s = c .before .before .before .before .before .before .before .before .before .before .before .before in (omega arith, refl, c .before .before .before .before .start .ensures ∙ start-is _ _ _ _ _ _, stored-none _ _ _)
 
 add-advance : tie.Need-add-advance Inv-loop μ-loop
 add-advance c = let s = c .before .before .before .before .before .before .before .before .before .before .before .before .before .before in omega (arith, nsym-is _ _ _ _ _ _ _ _ _ (s .pre))
@@ -115,7 +116,7 @@ loop-again : tie.Need-loop-again Inv-loop μ-loop
 loop-again c = let s = c .before .before .before .before .before .before .before .before .before .before .before .before .before .before .before .before .before .before .before in
     let e = c .before .before .before .before .advance .ensures ∙ ap (advanced _ _ _ _ _) (c .before .before .before .before .before .before .loop .inv .2) ∙ advanced-is _ _ _ _ _ _ _ in
     let g = turn _ _ _ _ _ _ _ _ _ _ _ _ _ (c .before .before .before .before .before .before .loop .inv .3) e (c .before .before .put-symbol2 .ensures) in
-    (omega (arith, c .before .before .before .before .before .loop-test .taken), ap length g ∙ written-length _ _ _ _, e, g)
+    (omega (arith, c .before .before .before .before .before .loop-test .taken), ap length g ∙ stored-length _ _ _ _, e, g)
 
 same-length : tie.Need-same-length Inv-loop μ-loop
 same-length c = search needs

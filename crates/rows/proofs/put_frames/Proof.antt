@@ -6,14 +6,15 @@ use native.Mathlib.Omega.{arith}
 use borrow.Author.Needs.{needs}
 use lib.ListN.{length}
 use Rattle.rows.specs.Symbols.{frameSymbol, inRows}
-use Rattle.rows.specs.Written.{written}
-use Rattle.rows.proofs.WrittenLaws.{written-length, written-same, rows-none, rows-step}
+use Rattle.complex.specs.Stored.{storedFrom}
+use Rattle.complex.specs.StoredLaws.{stored-length}
+use Rattle.rows.proofs.StoredRows.{stored-same, rows-none, rows-step}
 use Rattle.rows.proofs.Places.{starts-small, frames-small, frame-ready}
 use Rattle.rows.proofs.put_frames.Statement.{statement}
 use Rattle.rows.proofs.put_frames.Tie as tie
 
 abbrev Inv-loop : tie.InvT-loop
-Inv-loop l markers phasors frames payload draws c rows₀ at f₀ rows f = (f ≤ frames) × (length rows ≡ length rows₀) × (rows ≡ written (inRows (l .nsym) (frameSymbol l markers phasors payload draws c)) at (f * l .nsym) rows₀)
+Inv-loop l markers phasors frames payload draws c rows₀ at f₀ rows f = (f ≤ frames) × (length rows ≡ length rows₀) × (rows ≡ storedFrom (inRows (l .nsym) (frameSymbol l markers phasors payload draws c)) at (f * l .nsym) rows₀)
 
 abbrev μ-loop : tie.MeasureT-loop
 μ-loop l markers phasors frames payload draws c rows₀ at f₀ rows f = frames - f
@@ -49,7 +50,7 @@ loop-less c = omega (arith, c .before .before .before .before .before .loop-test
 loop-again : tie.Need-loop-again Inv-loop μ-loop
 loop-again c = let s = c .before .before .before .before .before .before .before .before .before .before .before .before .before in
     let e = c .before .before .put-frame .ensures ∙ rows-step _ _ _ _ _ _ (c .before .before .before .before .before .before .loop .inv .2) in
-    (omega (arith, c .before .before .before .before .before .loop-test .taken), ap length e ∙ written-length _ _ _ _, e)
+    (omega (arith, c .before .before .before .before .before .loop-test .taken), ap length e ∙ stored-length _ _ _ _, e)
 
 same-length : tie.Need-same-length Inv-loop μ-loop
 same-length c = search needs
@@ -57,7 +58,7 @@ same-length c = search needs
 returns : tie.Need-returns Inv-loop μ-loop
 returns c = let s = c .before .before .before .before .before .before .before .before in
     let e : c .before .loop .f ≡ s .args .frames = omega (arith, c .before .loop .inv .0) in
-    c .before .loop .inv .2 ∙ written-same _ _ _ _ _ _ (ap (λ (n : ℕ). s .args .c * n + 8) (c .before .before .row-len .ensures)) (ap (λ (k : ℕ). k * s .args .l .nsym) e)
+    c .before .loop .inv .2 ∙ stored-same _ _ _ _ _ _ (ap (λ (n : ℕ). s .args .c * n + 8) (c .before .before .row-len .ensures)) (ap (λ (k : ℕ). k * s .args .l .nsym) e)
 
 pub put-frames-spec : {M : Type 1} → statement M
 put-frames-spec =

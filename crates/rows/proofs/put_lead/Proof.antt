@@ -15,8 +15,9 @@ use Rattle.level.specs.Lengths.{rowLength}
 use Rattle.level.specs.SizedLaws.{sized}
 use Rattle.dat.specs.AcceptedLaws.{phasor-in}
 use Rattle.rows.specs.Symbols.{leadPoint, symbolOf, leadSymbol}
-use Rattle.rows.specs.Written.{written}
-use Rattle.rows.proofs.WrittenLaws.{written-none, written-step, written-length, written-same}
+use Rattle.complex.specs.Stored.{storedFrom}
+use Rattle.complex.specs.StoredLaws.{stored-none, stored-length}
+use Rattle.rows.proofs.StoredRows.{stored-step, stored-same}
 use Rattle.rows.specs.Accepted.{LeadReady}
 use Rattle.rows.proofs.Places.{lead-drawn, draws-small, starts-small, phasors-small, row-room}
 use Rattle.rows.proofs.put_lead.Statement.{statement}
@@ -42,15 +43,15 @@ lead-room l phasors frames draws c k n room len r e g K =
     let d : c * n ≡ c * rowLength l frames = ap (λ (x : ℕ). c * x) e in
     omega arith
 
-turn : (l : Layout) (phasors : List Float) (frames : ℕ) (draws : List ℕ) (c at k : ℕ) (xs ys zs : List Float) (d : Complex) → ys ≡ written (leadSymbol l phasors frames draws c) at k xs
+turn : (l : Layout) (phasors : List Float) (frames : ℕ) (draws : List ℕ) (c at k : ℕ) (xs ys zs : List Float) (d : Complex) → ys ≡ storedFrom (leadSymbol l phasors frames draws c) at k xs
     → d ≡ pointOf (l .bps) (getD draws (frames * l .nc + (k * l .nc + c)) 0) → zs ≡ cset ys (at + k) (symbolOf d (cget phasors (c * l .nsym + k)))
-    → zs ≡ written (leadSymbol l phasors frames draws c) at (k + 1) xs
+    → zs ≡ storedFrom (leadSymbol l phasors frames draws c) at (k + 1) xs
 unfolding leadSymbol leadPoint
 turn l phasors frames draws c at k xs ys zs d e f g =
-    g ∙ ap (λ (z : Complex). cset ys (at + k) (symbolOf z (cget phasors (c * l .nsym + k)))) f ∙ written-step (leadSymbol l phasors frames draws c) at k xs ys e
+    g ∙ ap (λ (z : Complex). cset ys (at + k) (symbolOf z (cget phasors (c * l .nsym + k)))) f ∙ stored-step (leadSymbol l phasors frames draws c) at k xs ys e
 
 abbrev Inv-loop : tie.InvT-loop
-Inv-loop l phasors frames draws c rows₀ at first from k₀ rows k = (k ≤ 8) × (length rows ≡ length rows₀) × (rows ≡ written (leadSymbol l phasors frames draws c) at k rows₀)
+Inv-loop l phasors frames draws c rows₀ at first from k₀ rows k = (k ≤ 8) × (length rows ≡ length rows₀) × (rows ≡ storedFrom (leadSymbol l phasors frames draws c) at k rows₀)
 
 abbrev μ-loop : tie.MeasureT-loop
 μ-loop l phasors frames draws c rows₀ at first from k₀ rows k = 8 - k
@@ -68,7 +69,7 @@ mul-from : tie.Need-mul-from Inv-loop μ-loop
 mul-from c = let s = c .before .before .before .before .before .before in omega (arith, phasors-small _ (s .pre .layout) _ (s .pre .carrier))
 
 loop-holds : tie.Need-loop-holds Inv-loop μ-loop
-loop-holds c = (omega arith, refl, written-none _ _ _)
+loop-holds c = (omega arith, refl, stored-none _ _ _)
 
 mul-drawn : tie.Need-mul-drawn Inv-loop μ-loop
 mul-drawn c = let s = c .before .before .before .before .before .before .before .before .before in omega (arith, place-small _ _ _ _ _ _ (s .pre) (c .before .loop-test .taken))
@@ -100,7 +101,7 @@ loop-less c = omega arith
 loop-again : tie.Need-loop-again Inv-loop μ-loop
 loop-again c = let s = c .before .before .before .before .before .before .before .before .before .before .before .before .before .before in
     let e = turn _ _ _ _ _ _ _ (s .args .rows .now) _ _ _ (c .before .before .before .before .before .before .before .loop .inv .2) (c .before .before .before .before .drawn .ensures) (c .before .before .put-symbol .ensures) in
-    (omega (arith, c .before .before .before .before .before .before .loop-test .taken), ap length e ∙ written-length _ _ _ _, e)
+    (omega (arith, c .before .before .before .before .before .before .loop-test .taken), ap length e ∙ stored-length _ _ _ _, e)
 
 same-length : tie.Need-same-length Inv-loop μ-loop
 same-length c = search needs
@@ -108,7 +109,7 @@ same-length c = search needs
 returns : tie.Need-returns Inv-loop μ-loop
 returns c = let s = c .before .before .before .before .before .before .before .before in
     let k : c .before .loop .k ≡ 8 = omega (arith, c .before .loop .inv .0) in
-    c .before .loop .inv .2 ∙ written-same _ _ _ _ _ _ (ap (λ (n : ℕ). s .args .c * n) (c .before .before .before .before .row-len .ensures)) k
+    c .before .loop .inv .2 ∙ stored-same _ _ _ _ _ _ (ap (λ (n : ℕ). s .args .c * n) (c .before .before .before .before .row-len .ensures)) k
 
 pub put-lead-spec : {M : Type 1} → statement M
 put-lead-spec =

@@ -13,17 +13,17 @@ use Rattle.complex.specs.Pairs.{cset}
 use Rattle.level.specs.declared.Layout.{Layout}
 use Rattle.level.specs.Lengths.{rowLength}
 use Rattle.rows.specs.Symbols.{Sending, inRows, rowSymbol}
-use Rattle.rows.specs.Written.{written}
-use Rattle.rows.proofs.WrittenLaws.{written-length}
+use Rattle.complex.specs.Stored.{storedFrom}
+use Rattle.complex.specs.StoredLaws.{stored-length}
 use Rattle.rows.proofs.Rows.{lead, frame, row-written}
 use Rattle.rows.specs.Accepted.{Ready}
 use Rattle.rows.proofs.Places.{starts-small, frames-small, row-room, ready-still, lead-ready}
 use Rattle.rows.proofs.put_row.Statement.{statement}
 use Rattle.rows.proofs.put_row.Tie as tie
 
-row-put : (l : Layout) (m : Sending) (c n : ℕ) (z : Complex) (xs ys zs ws : List Float) → ys ≡ written (lead l m c) (c * rowLength l (m .frames)) 8 xs
-    → zs ≡ written (inRows (l .nsym) (frame l m c)) (c * rowLength l (m .frames) + 8) (m .frames * l .nsym) ys → n ≡ rowLength l (m .frames) → z ≡ czero
-    → ws ≡ cset zs (c * n + (8 + m .frames * l .nsym)) z → ws ≡ written (rowSymbol l m c) (c * rowLength l (m .frames)) (rowLength l (m .frames)) xs
+row-put : (l : Layout) (m : Sending) (c n : ℕ) (z : Complex) (xs ys zs ws : List Float) → ys ≡ storedFrom (lead l m c) (c * rowLength l (m .frames)) 8 xs
+    → zs ≡ storedFrom (inRows (l .nsym) (frame l m c)) (c * rowLength l (m .frames) + 8) (m .frames * l .nsym) ys → n ≡ rowLength l (m .frames) → z ≡ czero
+    → ws ≡ cset zs (c * n + (8 + m .frames * l .nsym)) z → ws ≡ storedFrom (rowSymbol l m c) (c * rowLength l (m .frames)) (rowLength l (m .frames)) xs
 row-put l m c n z xs ys zs ws e g h k w = w ∙ rw (h, k) (row-written l m c (c * rowLength l (m .frames)) xs ys zs e g)
 
 module _ (l : Layout) (m : Sending) (room c : ℕ) (r : Ready l m room) (C : c < l .nc) where
@@ -39,7 +39,7 @@ put-lead-requires : tie.Need-put-lead-requires
 put-lead-requires c κs = let s = c .before .before .before .before .before .before in lead-ready _ _ _ (s .pre .0) _ refl _ (s .pre .1)
 
 put-frames-requires : tie.Need-put-frames-requires
-put-frames-requires c κs = let s = c .before .before .before .before .before .before .before .before .before .before in (ready-still _ _ _ (s .pre .0) _ (ap length (c .before .before .before .put-lead .ensures) ∙ written-length _ _ _ _), s .pre .1)
+put-frames-requires c κs = let s = c .before .before .before .before .before .before .before .before .before .before in (ready-still _ _ _ (s .pre .0) _ (ap length (c .before .before .before .put-lead .ensures) ∙ stored-length _ _ _ _), s .pre .1)
 
 row-len-requires : tie.Need-row-len-requires
 row-len-requires c κs = let s = c .before .before .before .before .before .before .before .before .before .before .before .before .before in (s .pre .0 .layout, s .pre .0 .frames-most)
@@ -60,7 +60,7 @@ zero-requires : tie.Need-zero-requires
 zero-requires c κs = search needs
 
 put-requires : tie.Need-put-requires
-put-requires c κs = let s = c .before .before .before .before .before .before .before .before .before .before .before .before .before .before .before .before .before in last-room _ _ _ _ (s .pre .0) (s .pre .1) _ _ (c .before .before .before .row-len .ensures) (ap length (c .before .before .before .before .before .before .put-frames .ensures) ∙ written-length _ _ _ _ ∙ ap length (c .before .before .before .before .before .before .before .before .before .before .put-lead .ensures) ∙ written-length _ _ _ _)
+put-requires c κs = let s = c .before .before .before .before .before .before .before .before .before .before .before .before .before .before .before .before .before in last-room _ _ _ _ (s .pre .0) (s .pre .1) _ _ (c .before .before .before .row-len .ensures) (ap length (c .before .before .before .before .before .before .put-frames .ensures) ∙ stored-length _ _ _ _ ∙ ap length (c .before .before .before .before .before .before .before .before .before .before .put-lead .ensures) ∙ stored-length _ _ _ _)
 
 same-length : tie.Need-same-length
 same-length c = search needs

@@ -9,27 +9,28 @@ use lib.Ieee.{Float}
 use Rattle.level.specs.declared.Layout.{Layout}
 use Rattle.level.specs.Lengths.{rowLength}
 use Rattle.rows.specs.Symbols.{Sending, sending, inRows, rowSymbol, rowsOf}
-use Rattle.rows.specs.Written.{written}
-use Rattle.rows.proofs.WrittenLaws.{written-length, rows-none, rows-step}
+use Rattle.complex.specs.Stored.{storedFrom}
+use Rattle.complex.specs.StoredLaws.{stored-length}
+use Rattle.rows.proofs.StoredRows.{rows-none, rows-step}
 use Rattle.rows.proofs.Rows.{rows-written}
 use Rattle.rows.specs.Accepted.{Ready}
 use Rattle.rows.proofs.Places.{ready-still}
 use Rattle.rows.proofs.put_rows.Statement.{statement}
 use Rattle.rows.proofs.put_rows.Tie as tie
 
-turn : (l : Layout) (m : Sending) (c : ℕ) (xs ys zs : List Float) → ys ≡ written (inRows (rowLength l (m .frames)) (rowSymbol l m)) 0 (c * rowLength l (m .frames)) xs
-    → zs ≡ written (rowSymbol l m c) (c * rowLength l (m .frames)) (rowLength l (m .frames)) ys
-    → zs ≡ written (inRows (rowLength l (m .frames)) (rowSymbol l m)) 0 ((c + 1) * rowLength l (m .frames)) xs
+turn : (l : Layout) (m : Sending) (c : ℕ) (xs ys zs : List Float) → ys ≡ storedFrom (inRows (rowLength l (m .frames)) (rowSymbol l m)) 0 (c * rowLength l (m .frames)) xs
+    → zs ≡ storedFrom (rowSymbol l m c) (c * rowLength l (m .frames)) (rowLength l (m .frames)) ys
+    → zs ≡ storedFrom (inRows (rowLength l (m .frames)) (rowSymbol l m)) 0 ((c + 1) * rowLength l (m .frames)) xs
 turn l m c xs ys zs e g =
     let a : c * rowLength l (m .frames) ≡ 0 + c * rowLength l (m .frames) = omega arith in
-    g ∙ ap (λ (k : ℕ). written (rowSymbol l m c) k (rowLength l (m .frames)) ys) a ∙ rows-step (rowLength l (m .frames)) (rowSymbol l m) 0 c xs ys e
+    g ∙ ap (λ (k : ℕ). storedFrom (rowSymbol l m c) k (rowLength l (m .frames)) ys) a ∙ rows-step (rowLength l (m .frames)) (rowSymbol l m) 0 c xs ys e
 
-all : (l : Layout) (m : Sending) (c : ℕ) (xs ys : List Float) → Ready l m (length xs) → ys ≡ written (inRows (rowLength l (m .frames)) (rowSymbol l m)) 0 (c * rowLength l (m .frames)) xs
+all : (l : Layout) (m : Sending) (c : ℕ) (xs ys : List Float) → Ready l m (length xs) → ys ≡ storedFrom (inRows (rowLength l (m .frames)) (rowSymbol l m)) 0 (c * rowLength l (m .frames)) xs
     → c ≡ l .nc → ys ≡ rowsOf l m
 all l m c xs ys r e g = rows-written l m xs ys (r .room-is) (rw g at e)
 
 abbrev Inv-loop : tie.InvT-loop
-Inv-loop l markers phasors frames payload draws rows₀ c₀ rows c = (c ≤ l .nc) × (length rows ≡ length rows₀) × (rows ≡ written (inRows (rowLength l frames) (rowSymbol l (sending markers phasors frames payload draws))) 0 (c * rowLength l frames) rows₀)
+Inv-loop l markers phasors frames payload draws rows₀ c₀ rows c = (c ≤ l .nc) × (length rows ≡ length rows₀) × (rows ≡ storedFrom (inRows (rowLength l frames) (rowSymbol l (sending markers phasors frames payload draws))) 0 (c * rowLength l frames) rows₀)
 
 abbrev μ-loop : tie.MeasureT-loop
 μ-loop l markers phasors frames payload draws rows₀ c₀ rows c = l .nc - c
@@ -49,7 +50,7 @@ loop-less c = omega (arith, c .before .before .before .before .if1 .taken)
 loop-again : tie.Need-loop-again Inv-loop μ-loop
 loop-again c = let s = c .before .before .before .before .before .before .before .before .before .before .before .before in
     let e = turn _ _ _ _ _ _ (c .before .before .before .before .before .before .loop .inv .2) (c .before .before .put-row .ensures) in
-    (omega (arith, c .before .before .before .before .if1 .taken), ap length e ∙ written-length _ _ _ _, e)
+    (omega (arith, c .before .before .before .before .if1 .taken), ap length e ∙ stored-length _ _ _ _, e)
 
 same-length : tie.Need-same-length Inv-loop μ-loop
 same-length c = search needs

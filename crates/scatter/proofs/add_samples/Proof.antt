@@ -9,7 +9,7 @@ use borrow.Author.Needs.{needs}
 use Rattle.complex.specs.Lists.{filled}
 use Rattle.complex.specs.ListLaws.{filled-none, filled-step}
 use Rattle.complex.specs.Pairs.{cget}
-use Rattle.nco.proofs.RowsLaws.{filled-rest}
+use Rattle.complex.specs.ListLaws.{filled-rest}
 use Rattle.scatter.specs.Scatter.{sample}
 use Rattle.scatter.specs.Parts.{interpolatedOf}
 use Rattle.scatter.proofs.add_samples.Statement.{statement}

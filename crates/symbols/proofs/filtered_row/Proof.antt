@@ -1,6 +1,6 @@
 -- `symbols::filtered_row` meets its contract: a turn stores one symbol more. Assumes nothing.
 use Prim.Native.Nat.{ℕ, _+_, _-_, _*_, _≤_}
-use mathlib.Core.Path.{_≡_, refl, ap, _∙_}
+use mathlib.Core.Path.{_≡_, ap, _∙_}
 use mathlib.Core.List.{List}
 use native.Mathlib.Omega.{arith}
 use borrow.Author.Needs.{needs}
@@ -11,10 +11,10 @@ use Rattle.complex.specs.Arithmetic.{cmul}
 use Rattle.complex.specs.Pairs.{cget}
 use Rattle.level.specs.SizedLaws.{sized}
 use Rattle.dat.specs.AcceptedLaws.{row-in, phasor-in}
-use Rattle.turned.specs.Turned.{storedFrom}
+use Rattle.complex.specs.Stored.{storedFrom}
 use Rattle.symbols.specs.Standing.{filteredFrom}
 use Rattle.symbols.specs.FilteredLaws.{place-on, place-inside, value-is}
-use Rattle.turned.specs.StoredLaws.{stored-none, stored-more, stored-ext, stored-length}
+use Rattle.complex.specs.StoredLaws.{stored-none, stored-more, stored-ext, stored-length}
 use Rattle.symbols.specs.SymbolLaws.{filtered-ith}
 use Rattle.symbols.proofs.filtered_row.Statement.{statement}
 use Rattle.symbols.proofs.filtered_row.Tie as tie
@@ -99,7 +99,7 @@ returns c =
     let m = a .memory .now in
     let e : c .before .loop .s ≡ a .l .nsym = omega arith in
     (rw e at (c .before .loop .inv .1))
-    ∙ stored-ext (filteredFrom (a .l) m (a .phasors .now) (a .filtered) (a .t) (a .c * a .l .nsym)) _ _ _ _
+    ∙ stored-ext _ (filteredFrom (a .l) m (a .phasors .now) (a .filtered) (a .t) (a .c * a .l .nsym)) _ _ _
     (λ k K. filtered-ith (a .l) m (a .phasors .now) (a .t) (a .filtered) (a .c) k _ K
     (ap (cget m) (place-on (a .l) (a .filtered) (a .t) (a .c) k _ (c .before .before .place .ensures))
     ∙ value-is (a .l) (a .filtered) (a .t) (p .0) (a .c) k (p .3) K m))

@@ -6,7 +6,7 @@ use Rattle.level.specs.SizedLaws.{sized}
 use Rattle.dat.specs.AcceptedLaws.{row-in}
 use Rattle.eq.specs.Fill.{Filling, filling-all}
 use Rattle.symbols.specs.Standing.{filteredIth}
-use Rattle.turned.specs.StoredLaws.{filling-rows, filling-row}
+use Rattle.turned.specs.PartLaws.{filling-rows, filling-row}
 use Rattle.symbols.proofs.filtered_symbols.Statement.{statement}
 use Rattle.symbols.proofs.filtered_symbols.Tie as tie
 

@@ -1,9 +1,9 @@
 -- `turned::eight_sums` meets its contract: the sums so far are those over the taps passed. Assumes nothing.
 use Prim.Native.Nat.{_+_, _-_, _≤_}
-use mathlib.Core.Path.{_≡_, ap₂, _∙_}
+use mathlib.Core.Path.{_≡_}
 use Rattle.fir.specs.Fir.{firAt}
-use Rattle.turned.specs.Turned.{fourApart, eightApart}
-use Rattle.turned.specs.StoredLaws.{sums-none, sums-more}
+use Rattle.turned.specs.Turned.{fourApart}
+use Rattle.turned.specs.PartLaws.{sums-none, sums-more}
 use borrow.Author.Needs.{needs}
 use native.Mathlib.Omega.{arith}
 use Rattle.turned.proofs.eight_sums.Statement.{statement}

@@ -1,12 +1,13 @@
 -- `turned::rest_symbols` meets its contract: a turn stores one symbol more. Assumes nothing.
-use Prim.Native.Nat.{_+_, _-_, _*_, _≤_}
+use Prim.Native.Nat.{_+_, _-_, _≤_}
 use mathlib.Core.Path.{_≡_, ap, _∙_}
 use lib.ListN.{length}
 use Rattle.complex.specs.declared.Complex.{Complex}
 use Rattle.complex.specs.Arithmetic.{cmul}
 use Rattle.complex.specs.Pairs.{cget}
-use Rattle.turned.specs.Turned.{partSymbol, storedFrom}
-use Rattle.turned.specs.StoredLaws.{stored-none, stored-more, stored-length}
+use Rattle.complex.specs.Stored.{storedFrom}
+use Rattle.turned.specs.Turned.{partSymbol}
+use Rattle.complex.specs.StoredLaws.{stored-none, stored-more, stored-length}
 use borrow.Author.Needs.{needs}
 use native.Mathlib.Omega.{arith}
 use Rattle.turned.proofs.rest_symbols.Statement.{statement}

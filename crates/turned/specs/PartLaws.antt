@@ -1,63 +1,24 @@
--- Sums side by side, and a row of complex numbers stored behind those before it. Assumes nothing.
-use Prim.Native.Nat.{ℕ, zero, suc, _+_, _-_, _*_, _≤_, _<_}
+-- Sums side by side, symbols of a part stored one after the other, and rows of them. Assumes nothing.
+use Prim.Native.Nat.{ℕ, _+_, _-_, _*_, _≤_, _<_}
 use mathlib.Core.Path.{_≡_, refl, sym, subst, ap, ap₂, _∙_}
 use mathlib.Core.List.{List}
-use native.Mathlib.Nat.{add-zero, suc-mul}
+use native.Mathlib.Nat.{suc-mul}
 use native.Mathlib.Numerals.{add-one}
 use native.Mathlib.Omega.{arith}
-use lib.ListN.{length, getD, length-set}
+use lib.ListN.{length, getD}
 use lib.Ieee.{Float, nan}
 use Rattle.complex.specs.declared.Complex.{Complex}
 use Rattle.complex.specs.Arithmetic.{czero, cadd, cmul, cscale}
 use Rattle.complex.specs.Sums.{sumTo}
 use Rattle.complex.specs.SumLaws.{sum-step}
-use Rattle.complex.specs.Pairs.{cget, cset, cfilled}
-use Rattle.complex.specs.PairLaws.{cfilled-length, cfilled-step}
-use Rattle.eq.specs.Fill.{Filling, filling-none}
+use Rattle.complex.specs.Pairs.{cget, cset}
+use Rattle.complex.specs.Stored.{storedFrom}
+use Rattle.complex.specs.StoredLaws.{stored-more, stored-join}
+use Rattle.eq.specs.Fill.{Filling, filling-none, filling-stored}
 use Rattle.fir.specs.Fir.{firAt, tapTerm}
 use Rattle.turned.specs.declared.Four.{Four}
 use Rattle.turned.specs.declared.Eight.{Eight}
-use Rattle.turned.specs.Turned.{storedFrom, partSymbol, fourMore, fourApart, eightApart, fourStored}
-
--- ---- a loop that stores: before it, a turn of it
-pub stored-none : (g : ℕ → Complex) (at : ℕ) (m : List Float) → m ≡ storedFrom g at 0 m
-unfolding storedFrom
-stored-none g at m = refl
-
-pub stored-more : (g : ℕ → Complex) (at n : ℕ) (m p r : List Float) (z : Complex) → p ≡ storedFrom g at n m → z ≡ g n
-    → r ≡ cset p (at + n) z → r ≡ storedFrom g at (n + 1) m
-unfolding storedFrom
-stored-more g at n m p r z e v s =
-    s
-    ∙ ap₂ (λ (p : List Float) (z : Complex). cset p (at + n) z) e v
-    ∙ ap (λ (k : ℕ). storedFrom g at k m) (sym (add-one n))
-
-pub stored-length : (g : ℕ → Complex) (at n : ℕ) (m : List Float) → length (storedFrom g at n m) ≡ length m
-unfolding storedFrom
-stored-length g at zero m = refl
-stored-length g at (suc n) m = simp length-set (stored-length g at n m)
-
--- stored numbers that are equal
-pub stored-ext : (f g : ℕ → Complex) (at n : ℕ) (m : List Float) → ((i : ℕ) → i < n → g i ≡ f i)
-    → storedFrom g at n m ≡ storedFrom f at n m
-unfolding storedFrom
-stored-ext f g at zero m h = refl
-stored-ext f g at (suc n) m h =
-    ap₂ (λ (q : List Float) (z : Complex). cset q (at + n) z) (stored-ext f g at n m (λ i I. h i (omega arith)))
-    (h n (omega arith))
-
--- another loop that stores behind it
-pub stored-join : (f g : ℕ → Complex) (at k n : ℕ) (m p : List Float) → p ≡ storedFrom f at k m
-    → ((i : ℕ) → i < n → g i ≡ f (k + i)) → storedFrom g (at + k) n p ≡ storedFrom f at (k + n) m
-unfolding storedFrom
-stored-join f g at k zero m p e h = e ∙ ap (λ (j : ℕ). storedFrom f at j m) (sym (add-zero k))
-stored-join f g at k (suc n) m p e h =
-    let next : suc (k + n) ≡ k + suc n = omega arith in
-    let there : at + k + n ≡ at + (k + n) = omega arith in
-    ap₂ (λ (q : List Float) (z : Complex). cset q (at + k + n) z)
-    (stored-join f g at k n m p e (λ i I. h i (omega arith))) (h n (omega arith))
-    ∙ ap (λ (j : ℕ). cset (storedFrom f at (k + n) m) j (f (k + n))) there
-    ∙ ap (λ (j : ℕ). storedFrom f at j m) next
+use Rattle.turned.specs.Turned.{partSymbol, fourMore, fourApart, eightApart, fourStored}
 
 -- ---- sums of four symbols: before them, a tap more
 module _ (v taps : List Float) where
@@ -144,18 +105,6 @@ module _ (v taps : List Float) (count from : ℕ) (phasors : List Float) (at : �
       ap₂ cmul (ap (firAt v taps count) there) (ap (cget phasors) place))
       ∙ ap (λ (j : ℕ). storedFrom part at j m) whole
 
--- ---- behind the first numbers
-stored-filled : (f g : ℕ → Complex) (at n : ℕ) (m : List Float) → ((i : ℕ) → i < n → g i ≡ f (at + i))
-    → 2 * (at + n) ≤ length m → storedFrom g at n (cfilled f at m) ≡ cfilled f (at + n) m
-unfolding storedFrom
-stored-filled f g at zero m e h = ap (λ (k : ℕ). cfilled f k m) (sym (add-zero at))
-stored-filled f g at (suc n) m e h =
-    let next : at + n + 1 ≡ at + suc n = omega arith in
-    ap₂ (λ (p : List Float) (z : Complex). cset p (at + n) z)
-    (stored-filled f g at n m (λ i k. e i (omega arith)) (omega arith)) (e n (omega arith))
-    ∙ cfilled-step f (at + n) m (cfilled f (at + n) m) refl (omega arith)
-    ∙ ap (λ (k : ℕ). cfilled f k m) next
-
 -- ---- rows of w: before them, and row c
 pub filling-rows : (f : ℕ → Complex) (w : ℕ) (l : List Float) → Filling f (0 * w) l l
 filling-rows f w l = let z : 0 ≡ 0 * w = omega arith in subst (λ (k : ℕ). Filling f k l l) z (filling-none f l)
@@ -165,9 +114,4 @@ pub filling-row : (f g : ℕ → Complex) (c w : ℕ) (l m r : List Float) → F
     → Filling f ((c + 1) * w) l r
 filling-row f g c w l m r i e h s =
     let next : c * w + w ≡ (c + 1) * w = sym (suc-mul c w) ∙ ap (λ (k : ℕ). k * w) (sym (add-one c)) in
-    let v : r ≡ cfilled f (c * w + w) l =
-    s ∙ ap (storedFrom g (c * w) w) (i .values) ∙ stored-filled f g (c * w) w l e h in
-    record {
-      long = ap length v ∙ cfilled-length f (c * w + w) l h;
-      values = v ∙ ap (λ (k : ℕ). cfilled f k l) next;
-    }
+    rw (s, ← next) (filling-stored f g (c * w) w l m i e h)
