@@ -63,7 +63,7 @@ is-true : (b : Bool) → T b → b ≡ true
 is-true true t = refl
 is-true false t = absurd t
 
-plain-number : (x : Float) → T (plain x) → isNan x ≡ false
+pub plain-number : (x : Float) → T (plain x) → isNan x ≡ false
 unfolding isNan
 plain-number nan p = absurd p
 plain-number (inf s) p = refl

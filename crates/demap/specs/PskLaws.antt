@@ -16,10 +16,10 @@ use Rattle.constellation.specs.BitLaws.{label-below, label-bit, bits-equal}
 use Rattle.laws.specs.Tests.{signBit}
 use Rattle.laws.specs.Size.{within-mono}
 use Rattle.demap.specs.Nearest.{distSqr, pointAt, nearest}
-use Rattle.demap.specs.NearestLaws.{First, nearest-below}
+use Rattle.demap.specs.NearestLaws.{nearest-below}
 use Rattle.demap.specs.SignLaw.{PartsWithin, Variance, PointsWithin, SignLaw}
 use Rattle.demap.specs.Soft.{softBit}
-use Rattle.demap.specs.SoftLaws.{nearest-is, soft-sign}
+use Rattle.demap.specs.SoftLaws.{soft-sign}
 
 -- every part of a point is at most 1
 point-near : (w j : ℕ) → 1 ≤ w → w ≤ 2 → j < 2 ^ w → PartsWithin (pointAt (alphabet w) j) 0
@@ -54,10 +54,6 @@ module _ (w : ℕ) (low : 1 ≤ w) (high : w ≤ 2) where
   unfolding nearest
   psk-label-below z =
       rw (alphabet-length w low high) (nearest-below (λ j. distSqr z (pointAt (alphabet w) j)) (2 ^ w) (pow-pos w))
-
-  pub psk-nearest : (z : Complex) → PartsWithin z 500
-      → First (λ j. distSqr z (pointAt (alphabet w) j)) (2 ^ w) (nearest (alphabet w) z)
-  psk-nearest z p = nearest-is w 500 (alphabet w) psk-points z p
 
   pub psk-sign : (b : ℕ) (z : Complex) (nvar : Float) → b < w → PartsWithin z 500 → Variance nvar
       → signBit (softBit w (alphabet w) b z nvar) ≡ labelBit w b (nearest (alphabet w) z .label)

@@ -62,7 +62,7 @@ least-again d n e = rw e (go (lt (d n) (leastOf d n)) refl)
     go false h = rw h refl
 
 -- what holds of each of some finite distances holds of their least
-least-is : (P : Float → Type 0) (d : ℕ → Float) (n : ℕ) → ((i : ℕ) → i < suc n → T (plain (d i)))
+pub least-is : (P : Float → Type 0) (d : ℕ → Float) (n : ℕ) → ((i : ℕ) → i < suc n → T (plain (d i)))
     → ((i : ℕ) → i < suc n → P (d i)) → P (leastOf d (suc n))
 unfolding leastOf
 least-is P d zero h p = rw (plain-below-inf (d 0) (h 0 (omega arith))) (p 0 (omega arith))
@@ -78,7 +78,7 @@ pub variance-floored : (x : Float) → Variance (maxf x milli)
 unfolding ofBits
 variance-floored x = maxf-ge x milli tt
 
-variance-recip : (nvar : Float) → Variance nvar → T (plain (div binary64 fone nvar))
+pub variance-recip : (nvar : Float) → Variance nvar → T (plain (div binary64 fone nvar))
 unfolding ofBits
 variance-recip nvar v = recip-plain binary64 milli nvar 10 (lit≤ tt) tt (lit≤ tt) (v .0) (v .1)
 

@@ -133,7 +133,8 @@ fn distance(bps: usize, z: Complex, label: usize) -> f64
     dist_sqr(z, constellation::point(bps, label))
 }
 
-fn lesser(x: f64, y: f64) -> f64
+// The lesser of two distances: the first, unless the second is below it.
+pub fn lesser(x: f64, y: f64) -> f64
     ensures { λ r. ⌜ r ≡ lesserOf x y ⌝ }
 {
     if y < x {

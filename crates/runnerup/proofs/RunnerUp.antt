@@ -2,24 +2,20 @@
 use Prim.Native.Nat.{ℕ, zero, suc, _^_, _≤_, _<_}
 use mathlib.Core.Path.{_≡_, refl, sym, ap, _∙_, subst}
 use mathlib.Core.Logic.{_⊎_, inl, inr, ⊎-elim}
-use mathlib.Core.Bool.{Bool, true, false, not, cond}
-use mathlib.Core.List.{List}
+use mathlib.Core.Bool.{Bool, true, false, cond}
 use native.Mathlib.Omega.{arith}
 use native.Mathlib.Nat.{eq-or-lt-of-le, le-of-suc-le-suc, not-suc-le-zero, eq-zero-or-pos}
 use borrow.Author.Tests.{eq-eqb, ne-eqb}
 use lib.Dec.{T, eqb, eqb→eq}
 use lib.Pow.{pow-mono}
-use lib.Ieee.{Float, nan, inf, fin, lt, le, isNan}
+use lib.Ieee.{Float, inf, lt, le}
 use Rattle.refusal.specs.declared.Refusal.the-variants.{AlphabetSize, StepSize}
 use Rattle.refusal.specs.Clear.{clear-first}
-use Rattle.complex.specs.declared.Complex.{Complex}
-use Rattle.laws.specs.Order.{clash, lt-asym, lt-trans, not-lt-le}
+use Rattle.laws.specs.Order.{clash, lt-trans, not-lt-le}
 use Rattle.laws.specs.Floats.{plain}
-use Rattle.demap.specs.declared.Closest.{Closest}
 use Rattle.demap.specs.Nearest.{distSqr, pointAt, nearest}
-use Rattle.demap.specs.NearestLaws.{First, dist-plain, plain-below-inf}
-use Rattle.demap.specs.SoftLaws.{nearest-is}
-use Rattle.demap.specs.SignLaw.{PartsWithin, PointsWithin}
+use Rattle.demap.specs.NearestLaws.{dist-plain, plain-number, plain-below-inf}
+use Rattle.demap.specs.SoftLaws.{lt-irreflexive, nearest-is}
 use Rattle.alphabets.specs.Alphabets.{bitsOf, points}
 use Rattle.alphabets.specs.AlphabetLaws.{points-within, bits-known}
 use Rattle.softstep.specs.Step.{wrongStep}
@@ -28,13 +24,6 @@ use Rattle.runnerup.specs.Ranked.{leastOther, rankedBy, rankedIn, search
 use Rattle.runnerup.specs.RunnerUp.{RunnerUp, RunnerUpLaw, SearchLaw}
 
 -- ---- no other distance is less than the least of them
-irreflexive : (x : Float) → lt x x ≡ false
-irreflexive x = go (lt x x) refl
-  where
-    go : (t : Bool) → lt x x ≡ t → lt x x ≡ false
-    go true e = lt-asym x x e
-    go false e = e
-
 not-less-through : (x y z : Float) → lt x z ≡ false → lt y z ≡ true → lt x y ≡ false
 not-less-through x y z h g = go (lt x y) refl
   where
@@ -51,7 +40,7 @@ none-less d h (suc n) k l g =
     (eq-or-lt-of-le (le-of-suc-le-suc l))
   where
     here : (t : Bool) → lt (d n) (leastOther d h n) ≡ t → lt (d n) (cond t (d n) (leastOther d h n)) ≡ false
-    here true e = irreflexive (d n)
+    here true e = lt-irreflexive (d n)
     here false e = e
 
     before : (b t : Bool) → lt (d n) (leastOther d h n) ≡ t → lt (d k) (leastOther d h n) ≡ false
@@ -87,12 +76,6 @@ attained d h n k l g p = go (attained-or d h n)
     go : (leastOther d h n ≡ inf false) ⊎ Attained d h n (leastOther d h n) → Attained d h n (leastOther d h n)
     go (inl z) = clash (sym (ap (lt (d k)) (sym z) ∙ none-less d h n k l g) ∙ plain-below-inf (d k) p)
     go (inr a) = a
-
-plain-number : (x : Float) → T (plain x) → isNan x ≡ false
-unfolding isNan
-plain-number nan p = absurd p
-plain-number (inf s) p = refl
-plain-number (fin s m e) p = refl
 
 -- two points or more: one is another than the nearest
 some-other : (w h : ℕ) → 1 ≤ w → (k : ℕ) × (k < 2 ^ w) × (k ≡ h → ⊥)

@@ -2,9 +2,9 @@
 -- Of the nearest point and a candidate one is 2^-6 or more away, so the candidate is. Two different squared distances are
 -- then 2^-59 or more apart, and 1 / nvar is at least 2^-60: the product is at least 2^-119, and so not zero.
 use mathlib.Core.Path.{_≡_, refl, sym, ap, _∙_, subst}
-use mathlib.Core.Logic.{_⊎_, inl, inr}
-use Prim.Native.Nat.{ℕ, zero, suc, _+_, _-_, _*_, _^_, _≤_, _<_}
-use native.Mathlib.Nat.{le-trans, le-of-eq, lt-of-lt-of-le, mul-pos, mul-le-mul, mul-mul-mul-comm, mul-one, zero-mul}
+use mathlib.Core.Logic.{inl, inr}
+use Prim.Native.Nat.{ℕ, _-_, _*_, _^_, _≤_, _<_}
+use native.Mathlib.Nat.{le-of-eq, lt-of-lt-of-le, mul-pos, mul-le-mul, mul-one, zero-mul}
 use native.Mathlib.Nat.{eq-or-lt-of-le}
 use native.Mathlib.Omega.{arith}
 use mathlib.Core.Bool.{Bool, true, false, not, _&&_, _||_, cond, Bool·beq, or-true}
@@ -12,27 +12,25 @@ use mathlib.Core.List.{List}
 use borrow.Author.Tests.{eq-eqb, ne-eqb}
 use lib.IntN.{pos}
 use lib.Dec.{T, eqb, lit≤}
-use lib.Ieee.{Float, nan, inf, fin, binary64, up, down, unlike, round, neg, sub, mul, div, lt, eq, le, fits, ofBits}
+use lib.Ieee.{Float, nan, inf, fin, binary64, up, down, unlike, round, neg, sub, mul, div, eq, le, fits, ofBits}
 use lib.Ieee.Scale.{finite}
 use lib.Ieee.Positive.{num, den, den-pos, through, first-pos}
 use Rattle.complex.specs.declared.Complex.{Complex}
 use Rattle.complex.specs.Arithmetic.{fzero}
 use Rattle.constellation.specs.Alphabet.{fone}
 use Rattle.constellation.specs.Label.{labelBit}
-use Rattle.laws.specs.Sign.{signed-of}
-use Rattle.laws.specs.Floats.{Signed, signOf, plain, Within}
-use Rattle.laws.specs.Plain.{plain-finite, plain-signed, plain-below, le-cross, cross-le}
+use Rattle.laws.specs.Floats.{Signed, signOf, plain}
+use Rattle.laws.specs.Plain.{plain-finite, plain-below, le-cross, cross-le}
 use Rattle.laws.specs.Size.{within-finite}
 use Rattle.laws.specs.Rounding.{round-zero}
 use Rattle.laws.specs.Operations.{mul-is, div-is, sub-equal, sub-plain, mul-plain-signed}
-use Rattle.laws.specs.Maximum.{recip-plain}
 use Rattle.demap.specs.declared.Closest.{Closest}
 use Rattle.demap.specs.Nearest.{distSqr, pointAt, nearest}
-use Rattle.demap.specs.NearestLaws.{First, dist-plain, dist-fits, plain-below-inf}
+use Rattle.demap.specs.NearestLaws.{First, dist-plain, dist-fits}
 use Rattle.demap.specs.Candidates.{candidate}
 use Rattle.demap.specs.CandidateLaws.{candidate-is}
-use Rattle.demap.specs.Soft.{leastOf, alternative, softOf, softBit}
-use Rattle.demap.specs.SoftLaws.{nearest-is}
+use Rattle.demap.specs.Soft.{alternative, softOf, softBit}
+use Rattle.demap.specs.SoftLaws.{least-is, variance-recip, nearest-is}
 use Rattle.demap.specs.SignLaw.{PartsWithin, milli, Variance, PointsWithin}
 use Rattle.softstep.specs.Step.{largestVariance}
 use Rattle.softstep.specs.StepLaw.{Separate, ZeroLaw}
@@ -101,10 +99,6 @@ module _ (nvar : Float) (v : Variance nvar) (l : T (le nvar largestVariance)) wh
       first-pos (num nvar) (den milli)
       (lt-of-lt-of-le (mul-pos (lit≤ tt) (den-pos nvar)) (le-cross milli nvar tt variance-plain (v .1)))
 
-  recip-is-plain : T (plain (div binary64 fone nvar))
-  unfolding ofBits
-  recip-is-plain = recip-plain binary64 milli nvar 10 (lit≤ tt) tt (lit≤ tt) (v .0) (v .1)
-
   recip-at-least : AtLeast 60 (div binary64 fone nvar)
   unfolding ofBits
   recip-at-least =
@@ -113,7 +107,7 @@ module _ (nvar : Float) (v : Variance nvar) (l : T (le nvar largestVariance)) wh
       (round-at-least 60 false (num fone * den nvar) (num nvar * den fone) (lit≤ tt)
       (mul-pos variance-positive (den-pos fone)) (bound (num nvar) (den nvar) (le-cross nvar largestVariance
       variance-plain tt l)) (subst (λ (x : Float). T (finite x)) e
-      (plain-finite (div binary64 fone nvar) recip-is-plain)))
+      (plain-finite (div binary64 fone nvar) (variance-recip nvar v))))
     where
       bound : (n d : ℕ) → n * 1 ≤ 2 ^ 60 * d → 1 * (n * 1) ≤ 1 * d * 2 ^ 60
       bound n d h = omega arith
@@ -167,17 +161,6 @@ record Weighed (h x : Float) : Type 0 where
   no-less : T (le h x)
   far : AtLeast 6 x
 
-least-has : (P : Float → Type 0) (d : ℕ → Float) (n : ℕ) → ((i : ℕ) → i < suc n → T (plain (d i)))
-    → ((i : ℕ) → i < suc n → P (d i)) → P (leastOf d (suc n))
-unfolding leastOf
-least-has P d zero h p = rw (plain-below-inf (d 0) (h 0 (omega arith))) (p 0 (omega arith))
-least-has P d (suc n) h p =
-    go (lt (d (suc n)) (leastOf d (suc n))) (least-has P d n (λ i l. h i (omega arith)) (λ i l. p i (omega arith)))
-  where
-    go : (t : Bool) → P (leastOf d (suc n)) → P (cond t (d (suc n)) (leastOf d (suc n)))
-    go true q = p (suc n) (omega arith)
-    go false q = q
-
 module _ (w k : ℕ) (points : List Complex) (W : PointsWithin w k points) (S : Separate w points) (b : ℕ) (B : b < w)
     (z : Complex) (p : PartsWithin z k) where
   abbrev near : Closest
@@ -227,7 +210,7 @@ module _ (w k : ℕ) (points : List Complex) (W : PointsWithin w k points) (S : 
   weighed : Weighed (near .distance) (alternative w points b (near .label) z)
   unfolding alternative
   weighed =
-      least-has (Weighed (near .distance)) (λ i. distSqr z (pointAt points (candidate w points b (near .label) i))) 3
+      least-is (Weighed (near .distance)) (λ i. distSqr z (pointAt points (candidate w points b (near .label) i))) 3
       (λ i l. weighed-at i .is-plain) (λ i l. weighed-at i)
 
   distance-plain : T (plain (near .distance))
@@ -246,4 +229,4 @@ zero-law w k points W S b B z p nvar v l =
     let x = weighed w k points W S b B z p in
     neg-zero (eqb (labelBit w b (r .label)) 0) (mul binary64 (sub binary64 a (r .distance)) s)
     ∙ product-zero a (r .distance) s (x .is-value) (distance-fits w k points W S b B z p) (x .is-plain)
-    (distance-plain w k points W S b B z p) (x .no-less) (recip-is-plain nvar v l) (x .far) (recip-at-least nvar v l)
+    (distance-plain w k points W S b B z p) (x .no-less) (variance-recip nvar v) (x .far) (recip-at-least nvar v l)

@@ -3,7 +3,6 @@ ghost use mathlib.Core.Path.{_≡_};
 ghost use Prim.Native.Nat.{_≤_, _<_, _^_};
 ghost use lib.ListN.{length};
 ghost use Rattle.complex.specs.Lists.{tabulate};
-ghost use Rattle.demap.specs.Apart.{lesserOf};
 ghost use Rattle.demap.specs.Soft.{softBit};
 ghost use Rattle.alphabets.specs.Alphabets.{points};
 ghost use Rattle.alphabets.specs.Distances.{distancesFrom};
@@ -163,44 +162,35 @@ fn row(w: usize, b: usize, h: usize) -> u64
     }
 }
 
-fn lesser(least: f64, d: f64) -> f64
-    ensures { λ r. ⌜ r ≡ lesserOf least d ⌝ }
-{
-    if d < least {
-        return d;
-    }
-    least
-}
-
 // The least of the distances at a row's four labels. One function a size: a label cut by a constant needs no test.
 fn least8(distances: &[f64], row: u64) -> f64
     requires { ⌜ length (now distances) ≡ 8 ⌝ }
     ensures { λ r. ⌜ r ≡ leastInRow 3 (now (distances .entry)) row ⌝ }
 {
-    let one = lesser(1.0 / 0.0, distances[(row % 8) as usize]);
-    let two = lesser(one, distances[((row >> 3) % 8) as usize]);
-    let three = lesser(two, distances[((row >> 6) % 8) as usize]);
-    lesser(three, distances[((row >> 9) % 8) as usize])
+    let one = demap::lesser(1.0 / 0.0, distances[(row % 8) as usize]);
+    let two = demap::lesser(one, distances[((row >> 3) % 8) as usize]);
+    let three = demap::lesser(two, distances[((row >> 6) % 8) as usize]);
+    demap::lesser(three, distances[((row >> 9) % 8) as usize])
 }
 
 fn least16(distances: &[f64], row: u64) -> f64
     requires { ⌜ length (now distances) ≡ 16 ⌝ }
     ensures { λ r. ⌜ r ≡ leastInRow 4 (now (distances .entry)) row ⌝ }
 {
-    let one = lesser(1.0 / 0.0, distances[(row % 16) as usize]);
-    let two = lesser(one, distances[((row >> 4) % 16) as usize]);
-    let three = lesser(two, distances[((row >> 8) % 16) as usize]);
-    lesser(three, distances[((row >> 12) % 16) as usize])
+    let one = demap::lesser(1.0 / 0.0, distances[(row % 16) as usize]);
+    let two = demap::lesser(one, distances[((row >> 4) % 16) as usize]);
+    let three = demap::lesser(two, distances[((row >> 8) % 16) as usize]);
+    demap::lesser(three, distances[((row >> 12) % 16) as usize])
 }
 
 fn least32(distances: &[f64], row: u64) -> f64
     requires { ⌜ length (now distances) ≡ 32 ⌝ }
     ensures { λ r. ⌜ r ≡ leastInRow 5 (now (distances .entry)) row ⌝ }
 {
-    let one = lesser(1.0 / 0.0, distances[(row % 32) as usize]);
-    let two = lesser(one, distances[((row >> 5) % 32) as usize]);
-    let three = lesser(two, distances[((row >> 10) % 32) as usize]);
-    lesser(three, distances[((row >> 15) % 32) as usize])
+    let one = demap::lesser(1.0 / 0.0, distances[(row % 32) as usize]);
+    let two = demap::lesser(one, distances[((row >> 5) % 32) as usize]);
+    let three = demap::lesser(two, distances[((row >> 10) % 32) as usize]);
+    demap::lesser(three, distances[((row >> 15) % 32) as usize])
 }
 
 fn least(w: usize, distances: &[f64], row: u64) -> f64
