@@ -44,6 +44,9 @@ tables-of l table phasors z h =
     (markers-of l table z (s .0), phasors-of l phasors z (s .1))
 
 -- ---- lengths, and the places that a carrier's entries have
+pub in-table : (l : Layout) (table : List ℕ) (c : ℕ) → Markers l table → c < l .nc → InTable l table c
+in-table l table c m C = record { sized = m .sized; length-ok = m .length-ok; carrier = C }
+
 pub length-is : (l : Layout) (table : List ℕ) → wrongLength l table ≡ false → length table
     ≡ l .nc * (l .markers + l .nsym)
 unfolding wrongLength

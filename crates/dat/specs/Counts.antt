@@ -188,13 +188,7 @@ byCarrier-count f (suc n) m h =
     let s = suc-mul n m in
     omega arith
 
--- the marks of an accepted table
-pub all-marks-count : (l : Layout) (table : List ℕ) → Sized l → wrongValue l table ≡ false
-    → length (byCarrier (marksOf l table) (l .nc)) ≡ l .nc * l .markers
-all-marks-count l table z h =
-    byCarrier-count (marksOf l table) (l .nc) (l .markers) (λ c C. marks-count l table z h c C)
-
--- the bits of its cells are the payload: n of them
+-- the bits of an accepted table's cells are the payload: n of them
 pub all-cells-count : (l : Layout) (table : List ℕ) → Sized l → wrongValue l table ≡ false
     → length (byCarrier (cellsOf l table) (l .nc)) * l .bps ≡ l .n
 all-cells-count l table z h =

@@ -3,6 +3,7 @@ pub mod Cells
 pub mod Counts
 pub mod Accepted
 pub mod AcceptedLaws
+pub mod CellLaws
 pub mod Insert
 pub mod InsertLaws
 pub mod Select

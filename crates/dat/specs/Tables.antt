@@ -98,11 +98,3 @@ tableFault l table phasors = orElse (markerFault l table) (phasorFault l phasors
 -- an accepted marker table: none of rows 3 to 5 is met
 abbrev pub MarkersAccepted : Layout → List ℕ → Type 0
 MarkersAccepted l table = markerFault l table ≡ Clear
-
--- accepted phasors: neither of rows 6 and 7 is met
-abbrev pub PhasorsAccepted : Layout → List Float → Type 0
-PhasorsAccepted l phasors = phasorFault l phasors ≡ Clear
-
--- accepted tables: none of rows 3 to 7 is met
-abbrev pub TablesAccepted : Layout → List ℕ → List Float → Type 0
-TablesAccepted l table phasors = tableFault l table phasors ≡ Clear

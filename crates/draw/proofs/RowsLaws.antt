@@ -3,15 +3,21 @@ use Prim.Native.Nat.{ℕ, zero, suc, _+_, _*_, _<_, _≤_}
 use mathlib.Core.Path.{_≡_, refl, sym, ap, _∙_}
 use mathlib.Core.List.{List, _++_, append-assoc}
 use mathlib.Core.Logic.{⊎-elim}
-use native.Mathlib.Nat.{eq-or-lt-of-le, le-of-suc-le-suc, zero-mul, suc-mul}
+use native.Mathlib.Nat.{eq-or-lt-of-le, le-trans, le-of-suc-le-suc, zero-mul, suc-mul}
 use native.Mathlib.Numerals.{add-one}
 use native.Mathlib.Omega.{arith}
 use lib.ListN.{length, take, length-append}
 use lib.Seq.{take-at, take-all, length-take-le}
 use Rattle.refusal.specs.Outcome.{refused, answered}
 use Rattle.level.specs.declared.Layout.{Layout}
+use Rattle.level.specs.Sized.{Sized}
+use Rattle.complex.specs.Rows.{row-within}
 use Rattle.draw.specs.Draw.{drawnRow, drawnRows}
 use Rattle.draw.proofs.RowLaws.{at}
+
+-- a row ends among the 40 values that a layout has at most
+pub row-few : (l : Layout) (c : ℕ) → Sized l → c < l .nc → c * l .markers + l .markers ≤ 40
+row-few l c z h = le-trans (row-within c (l .nc) (l .markers) h) (z .marks-most)
 
 module _ (l : Layout) (limit state : ℕ) where
   -- the first c rows are drawn, and s is the state after them

@@ -1,5 +1,5 @@
 -- What the meter's loops and calls cite of its definitions. Assumes nothing.
-use Prim.Native.Nat.{ℕ, zero, suc, _+_, _<_, _≤_}
+use Prim.Native.Nat.{ℕ, zero, suc, _+_, _≤_}
 use mathlib.Core.Path.{_≡_, refl, _∙_}
 use mathlib.Core.Bool.{Bool, true, false, not, _||_, cond}
 use mathlib.Core.List.{List}
@@ -7,9 +7,8 @@ use native.Mathlib.Numerals.{add-one}
 use native.Mathlib.Omega.{arith}
 use lib.Dec.{ltb, eqb}
 use lib.ListN.{length, getD}
-use borrow.Author.Tests.{eqb-true, eq-eqb, ne-eqb, not-false, ltb-false}
+use borrow.Author.Tests.{eqb-true, eq-eqb, ne-eqb, not-false}
 use Rattle.refusal.specs.Any.{any}
-use Rattle.refusal.specs.AnyLaws.{any-below}
 use Rattle.meter.specs.Meter.{wrongBits, count, differs, differing}
 
 -- ---- counting
@@ -47,13 +46,3 @@ bits-length n payload h = eqb-true (length payload) n (not-false (eqb (length pa
     first : (a b : Bool) → (a || b) ≡ false → a ≡ false
     first false b e = refl
     first true b e = e
-
-pub bits-at-most : (n : ℕ) (payload : List ℕ) → wrongBits n payload ≡ false → (i : ℕ) → i < n → getD payload i 0 ≤ 1
-unfolding wrongBits
-bits-at-most n payload h i l =
-    ltb-false 1 (getD payload i 0)
-    (any-below (λ i. ltb 1 (getD payload i 0)) n i (second (not (eqb (length payload) n)) (any (λ i. ltb 1 (getD payload i 0)) n) h) l)
-  where
-    second : (a b : Bool) → (a || b) ≡ false → b ≡ false
-    second false b e = e
-    second true b e = absurd (let z : _≡_ {A = ℕ} 0 1 = cc in omega arith)

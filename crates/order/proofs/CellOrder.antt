@@ -9,16 +9,17 @@ use native.Mathlib.Nat.{eq-or-lt-of-le, le-of-suc-le-suc}
 use native.Mathlib.Omega.{arith}
 use borrow.Author.Tests.{ne-eqb}
 use lib.Dec.{eqb}
-use lib.ListN.{length, getD, List·getD-append, List·getD-map, length-map, length-append}
-use lib.Seq.{getD-append-add, getD-at}
+use lib.ListN.{length, getD, List·getD-append, length-append}
+use lib.Seq.{getD-at}
 use Rattle.complex.specs.Lists.{Each}
-use Rattle.complex.specs.ListLaws.{each-append, each-implies, getD-default}
+use Rattle.complex.specs.ListLaws.{each-append, each-implies}
 use Rattle.level.specs.declared.Layout.{Layout}
 use Rattle.level.specs.Lengths.{cells}
 use Rattle.dat.specs.Cells.{Cell, cellAt, symbolsWhere, byCarrier, cellsOf}
-use Rattle.dat.specs.Counts.{one, count-step, count-le, cells-count, byCarrier-count}
+use Rattle.dat.specs.Counts.{cells-count, byCarrier-count}
 use Rattle.dat.specs.Accepted.{Markers}
 use Rattle.dat.specs.AcceptedLaws.{row-in}
+use Rattle.dat.specs.CellLaws.{byCarrier-at}
 use Rattle.order.specs.TimeCells.{symbolCells, bySymbol, isData, timeCells, carrierCells, sameCell, placeIn}
 use Rattle.order.specs.Restored.{Earlier}
 use Rattle.order.proofs.CellLists.{Rising, rising-append, once, interchange, perm-length}
@@ -223,25 +224,6 @@ where-at f (suc n) t h e =
           List·getD-append (symbolsWhere f n) ys 0 (length (symbolsWhere f t)) i ∙ w .1,
         )
 
--- cell k of carrier c, of carriers with w cells each
-carrier-at : (g : ℕ → List ℕ) (n w c k : ℕ) (d : Cell) → ((c : ℕ) → c < n → length (g c) ≡ w) → c < n → k < w
-    → getD (byCarrier g n) (c * w + k) d ≡ cellAt c (getD (g c) k 0)
-unfolding byCarrier
-carrier-at g zero w c k d h C K = absurd (omega arith)
-carrier-at g (suc n) w c k d h C K =
-    let xs = byCarrier g n in
-    let ys = map (cellAt n) (g n) in
-    let len : length xs ≡ n * w = byCarrier-count g n w (λ c C. h c (omega arith)) in
-    ⊎-elim
-    (λ e.
-    let i : c * w + k ≡ length xs + k = ap (λ (x : ℕ). x * w + k) e ∙ ap (λ (x : ℕ). x + k) (sym len) in
-    let j : k < length ys = rw (length-map (g n) (cellAt n)) (omega (arith, h n (omega arith))) in
-    rw (i, getD-append-add xs ys k d, e) (getD-default ys k d (cellAt n 0) j ∙ List·getD-map (cellAt n) (g n) k 0))
-    (λ l.
-    let i : c * w + k < length xs = rw len (row-in n w c k l K) in
-    List·getD-append xs ys d (c * w + k) i ∙ carrier-at g n w c k d (λ c C. h c (omega arith)) l K)
-    (eq-or-lt-of-le (le-of-suc-le-suc C))
-
 module _ (l : Layout) (table : List ℕ) where
   -- the data cells of carrier c before symbol t + 1
   abbrev pub before : ℕ → ℕ → ℕ
@@ -283,7 +265,7 @@ module _ (l : Layout) (table : List ℕ) where
         let n : length (cellsOf l table c) ≡ cells l = cells-count l table (m .sized) (m .values-ok) c C in
         let w = where-at (isData l table c) (l .nsym - 1) t T e in
         let K : before c t < cells l = omega (arith, w .0, n) in
-        let at = carrier-at (cellsOf l table) (l .nc) (cells l) c (before c t) (cellAt 0 0)
+        let at = byCarrier-at (cellsOf l table) (l .nc) (cells l) c (before c t) (cellAt 0 0)
         (λ c C. cells-count l table (m .sized) (m .values-ok) c C) C K in
         let I : c * cells l + before c t < length (carrierCells l table) =
         rw carrier-count (row-in (l .nc) (cells l) c (before c t) C K) in (

@@ -1,12 +1,11 @@
 -- What a call of the sender knows that has met no fault. Assumes nothing.
-use Prim.Native.Nat.{ℕ, zero, suc, _+_, _*_, _^_, _<_, _≤_}
+use Prim.Native.Nat.{ℕ, _+_, _*_, _^_, _<_, _≤_}
 use mathlib.Core.Path.{_≡_, refl}
 use mathlib.Core.Bool.{true, false, not, or-true}
 use mathlib.Core.List.{List}
 use native.Mathlib.Omega.{arith}
 use lib.Dec.{leb, eqb}
 use lib.ListN.{length, getD}
-use lib.Ieee.{Float}
 use borrow.Author.Tests.{leb-false, le-leb, eqb-true, eq-eqb, ne-eqb, not-false}
 use Rattle.refusal.specs.declared.Fault.{Fault}
 use Rattle.refusal.specs.declared.Fault.the-variants.{Clear, Met}
@@ -14,7 +13,7 @@ use Rattle.refusal.specs.Outcome.{Outcome, refused, answered, andThen, judged}
 use Rattle.refusal.specs.Any.{any}
 use Rattle.refusal.specs.AnyLaws.{any-at, any-below}
 use Rattle.refusal.specs.Clear.{neither, clear-first, clear-both}
-use Rattle.constellation.specs.Alphabet.{alphabet}
+use Rattle.constellation.specs.PointLaws.{alphabet-length}
 use Rattle.level.specs.declared.Layout.{Layout}
 use Rattle.level.specs.Lengths.{rowLength}
 use Rattle.level.specs.Layout.{chosen}
@@ -31,16 +30,9 @@ use Rattle.rows.specs.Accepted.{Ready}
 use Rattle.psk.specs.Accepted.{Call, AnsweredCalls}
 
 -- both alphabets have a point for each label
-alphabet-size : (bps : ℕ) → 1 ≤ bps → bps ≤ 2 → length (alphabet bps) ≡ 2 ^ bps
-unfolding alphabet
-alphabet-size zero p q = absurd (omega arith)
-alphabet-size (suc zero) p q = refl
-alphabet-size (suc (suc zero)) p q = refl
-alphabet-size (suc (suc (suc k))) p q = absurd (omega arith)
-
 pub size-is : (l : Layout) → IsLayout l → alphabetSize l ≡ 2 ^ l .bps
 unfolding alphabetSize
-size-is l i = alphabet-size (l .bps) (sized l i .bps-least) (sized l i .bps-most)
+size-is l i = alphabet-length (l .bps) (sized l i .bps-least) (sized l i .bps-most)
 
 -- ---- bytes, for the loop that tests them
 module _ (count limit : ℕ) (bytes : List ℕ) where

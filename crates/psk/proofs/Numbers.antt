@@ -3,19 +3,20 @@ use Prim.Native.Nat.{ℕ, zero, suc, _+_, _-_, _*_, _/_, _%_, _<_, _≤_}
 use mathlib.Core.Path.{_≡_, refl, sym, ap, _∙_, subst}
 use mathlib.Core.Logic.{⊎-elim}
 use mathlib.Core.Bool.{Bool, true, false, not, cond}
-use mathlib.Core.List.{List, [], _∷_, _++_, map}
+use mathlib.Core.List.{List, [], _∷_, _++_}
 use native.Mathlib.Nat.{eq-or-lt-of-le, le-antisymm, le-of-suc-le-suc, lt-of-not-le, mod-lt, div-lt-iff-lt-mul, div-add-mod', mul-zero}
 use native.Mathlib.Omega.{arith}
-use lib.ListN.{length, getD, List·getD-append, List·getD-map, length-map}
-use lib.Seq.{getD-append-add, getD-at}
+use lib.ListN.{length, getD, List·getD-append}
+use lib.Seq.{getD-at}
 use borrow.Author.Tests.{not-true}
 use Rattle.level.specs.declared.Layout.{Layout}
 use Rattle.level.specs.Lengths.{cells}
 use Rattle.dat.specs.Tables.{marked}
-use Rattle.dat.specs.Cells.{symbolsWhere, cellsOf, Cell, cellAt, byCarrier}
-use Rattle.dat.specs.Counts.{one, count-step, count-le, byCarrier-count, cells-count}
+use Rattle.dat.specs.Cells.{symbolsWhere, cellsOf, Cell, cellAt}
+use Rattle.dat.specs.Counts.{one, count-step, count-le, cells-count}
 use Rattle.dat.specs.Accepted.{Markers}
 use Rattle.dat.specs.AcceptedLaws.{row-in}
+use Rattle.dat.specs.CellLaws.{byCarrier-at}
 use Rattle.rows.specs.Symbols.{IsCell, cellList, cellsBefore, cellNumber}
 
 -- ---- the symbols of which f holds
@@ -68,28 +69,6 @@ where-is f n s p q e =
     same-symbol f _ s (w .least) p (w .holds) e (w .before)
 
 -- ---- all carriers
-by-carrier : (g : ℕ → List ℕ) (n w c k : ℕ) (d : Cell) → ((c : ℕ) → c < n → length (g c) ≡ w) → c < n → k < w → getD (byCarrier g n) (c * w + k) d ≡ cellAt c (getD (g c) k 0)
-unfolding byCarrier
-by-carrier g zero w c k d h C K = absurd (omega arith)
-by-carrier g (suc n) w c k d h C K =
-    let xs = byCarrier g n in
-    let ys = map (cellAt n) (g n) in
-    let len : length xs ≡ n * w = byCarrier-count g n w (λ c C. h c (omega arith)) in
-    ⊎-elim
-    (λ e.
-    let i : c * w + k ≡ length xs + k = ap (λ (x : ℕ). x * w + k) e ∙ ap (λ (x : ℕ). x + k) (sym len) in
-    let j : k < length ys = rw (length-map (g n) (cellAt n)) (omega (arith, h n (omega arith))) in
-    rw (i, getD-append-add xs ys k d, e) (getD-any ys k d (cellAt n 0) j ∙ List·getD-map (cellAt n) (g n) k 0))
-    (λ l.
-    let i : c * w + k < length xs = rw len (row-in n w c k l K) in
-    List·getD-append xs ys d (c * w + k) i ∙ by-carrier g n w c k d (λ c C. h c (omega arith)) l K)
-    (eq-or-lt-of-le (le-of-suc-le-suc C))
-  where
-    getD-any : (zs : List Cell) (k : ℕ) (d e : Cell) → k < length zs → getD zs k d ≡ getD zs k e
-    getD-any [] k d e h = absurd (omega arith)
-    getD-any (z ∷ zs) zero d e h = refl
-    getD-any (z ∷ zs) (suc k) d e h = getD-any zs k d e (omega arith)
-
 -- x is the cell whose number is i
 pub record Numbered (l : Layout) (markers : List ℕ) (x : Cell) (i : ℕ) : Type 0 where
   pub is-cell : IsCell l markers (x .carrier) (x .symbol)
@@ -111,7 +90,7 @@ module _ (l : Layout) (markers : List ℕ) (M : Markers l markers) where
   cell-at c s d k =
       let f : ℕ → Bool = λ i. not (marked l markers c i) in
       let q : s ≤ l .nsym - 1 = omega (arith, k .most) in
-      by-carrier (cellsOf l markers) (l .nc) (cells l) c _ d count (k .carrier) (rw (← (count c (k .carrier))) (counted f s (l .nsym - 1) (k .least) q (ap not (k .unmarked))))
+      byCarrier-at (cellsOf l markers) (l .nc) (cells l) c _ d count (k .carrier) (rw (← (count c (k .carrier))) (counted f s (l .nsym - 1) (k .least) q (ap not (k .unmarked))))
       ∙ ap (cellAt c) (where-is f (l .nsym - 1) s (k .least) q (ap not (k .unmarked)))
 
   -- and the list has nothing else
@@ -128,7 +107,7 @@ module _ (l : Layout) (markers : List ℕ) (M : Markers l markers) where
       let e : i ≡ c * w + k = sym (div-add-mod' i w) in
       let p = where-at f (l .nsym - 1) k (rw (count c C) K) in
       let s = getD (cellsOf l markers c) k 0 in
-      let q : getD (cellList l markers) i d ≡ cellAt c s = ap (λ (x : ℕ). getD (cellList l markers) x d) e ∙ by-carrier (cellsOf l markers) (l .nc) w c k d count C K in
+      let q : getD (cellList l markers) i d ≡ cellAt c s = ap (λ (x : ℕ). getD (cellList l markers) x d) e ∙ byCarrier-at (cellsOf l markers) (l .nc) w c k d count C K in
       subst (λ (x : Cell). Numbered l markers x i) (sym q)
       (record {
         is-cell = record { carrier = C; least = p .least; most = omega (arith, p .most, p .least); unmarked = not-true (marked l markers c s) (p .holds) };

@@ -1,12 +1,9 @@
 -- `dat::carrier_marks` meets its contract: the values before k stand in order, and no value stands twice. Assumes nothing.
-use Prim.Native.Nat.{ℕ, _-_, _<_, _≤_}
+use Prim.Native.Nat.{_-_, _≤_}
 use mathlib.Core.Path.{_≡_, refl, _∙_}
-use mathlib.Core.List.{List}
 use native.Mathlib.Omega.{arith}
 use lib.ListN.{length, take}
-use Rattle.level.specs.declared.Layout.{Layout}
-use Rattle.dat.specs.Accepted.{Markers, InTable}
-use Rattle.dat.specs.AcceptedLaws.{values-small, value-in}
+use Rattle.dat.specs.AcceptedLaws.{in-table, values-small, value-in}
 use Rattle.dat.specs.FlagLaws.{value-room}
 use Rattle.dat.specs.InsertLaws.{marksBefore, marks-none, marks-more, marks-all}
 use Rattle.dat.proofs.carrier_marks.Statement.{statement}
@@ -18,23 +15,20 @@ Inv-loop l table c out₀ from k₀ out k = (k ≤ l .markers) × (length out �
 abbrev μ-loop : tie.MeasureT-loop
 μ-loop l table c out₀ from k₀ out k = l .markers - k
 
-there : (l : Layout) (table : List ℕ) (c : ℕ) → Markers l table → c < l .nc → InTable l table c
-there l table c m C = record { sized = m .sized; length-ok = m .length-ok; carrier = C }
-
 mul-from : tie.Need-mul-from Inv-loop μ-loop
-mul-from c = let s = c .before .before .before in omega (arith, values-small _ _ _ (there _ _ _ (s .pre .0) (s .pre .1)))
+mul-from c = let s = c .before .before .before in omega (arith, values-small _ _ _ (in-table _ _ _ (s .pre .0) (s .pre .1)))
 
 loop-holds : tie.Need-loop-holds Inv-loop μ-loop
 loop-holds c = let s = c .before .before .before .args in (omega arith, refl, marks-none (s .l) (s .table .now) (s .c) (s .out .now))
 
 add-insert : tie.Need-add-insert Inv-loop μ-loop
-add-insert c = let s = c .before .before .before .before .before .before .before in omega (arith, values-small _ _ _ (there _ _ _ (s .pre .0) (s .pre .1)), s .pre .0 .sized .markers-most, c .before .if1 .taken)
+add-insert c = let s = c .before .before .before .before .before .before .before in omega (arith, values-small _ _ _ (in-table _ _ _ (s .pre .0) (s .pre .1)), s .pre .0 .sized .markers-most, c .before .if1 .taken)
 
 mul-insert : tie.Need-mul-insert Inv-loop μ-loop
-mul-insert c = let s = c .before .before .before .before .before .before .before in omega (arith, values-small _ _ _ (there _ _ _ (s .pre .0) (s .pre .1)), s .pre .0 .sized .markers-most, c .before .if1 .taken)
+mul-insert c = let s = c .before .before .before .before .before .before .before in omega (arith, values-small _ _ _ (in-table _ _ _ (s .pre .0) (s .pre .1)), s .pre .0 .sized .markers-most, c .before .if1 .taken)
 
 shared-slice-read-insert : tie.Need-shared-slice-read-insert Inv-loop μ-loop
-shared-slice-read-insert c = let s = c .before .before .before .before .before .before .before .before in value-in _ _ _ (there _ _ _ (s .pre .0) (s .pre .1)) _ (c .before .before .if1 .taken)
+shared-slice-read-insert c = let s = c .before .before .before .before .before .before .before .before in value-in _ _ _ (in-table _ _ _ (s .pre .0) (s .pre .1)) _ (c .before .before .if1 .taken)
 
 cast-insert : tie.Need-cast-insert Inv-loop μ-loop
 cast-insert c = let s = c .before .before .before .before .before .before .before .before in omega (arith, value-room (s .args .l) (s .args .table .now) (s .args .c) (c .before .before .before .before .loop .k) (s .pre .0 .sized) (s .pre .0 .values-ok) (s .pre .1) (c .before .before .if1 .taken))

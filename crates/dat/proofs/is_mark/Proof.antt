@@ -7,13 +7,10 @@ use native.Mathlib.Omega.{arith}
 use lib.Dec.{eqb}
 use Rattle.level.specs.declared.Layout.{Layout}
 use Rattle.dat.specs.Tables.{flag, marked}
-use Rattle.dat.specs.Accepted.{Markers, InTable}
-use Rattle.dat.specs.AcceptedLaws.{flags-small, flag-in, flag-is, low-symbol}
+use Rattle.dat.specs.Accepted.{Markers}
+use Rattle.dat.specs.AcceptedLaws.{in-table, flags-small, flag-in, flag-is, low-symbol}
 use Rattle.dat.proofs.is_mark.Statement.{statement}
 use Rattle.dat.proofs.is_mark.Tie as tie
-
-there : (l : Layout) (table : List ℕ) (c : ℕ) → Markers l table → c < l .nc → InTable l table c
-there l table c m C = record { sized = m .sized; length-ok = m .length-ok; carrier = C }
 
 -- a flag of 0 or 1 as a test
 set : (b : Bool) (f : ℕ) → f ≡ cond b 1 0 → not (eqb f 0) ≡ b
@@ -29,22 +26,22 @@ returns : tie.Need-returns
 returns c = sym (low-symbol _ _ _ _ (c .before .pre .0 .values-ok) (c .before .pre .1) (omega arith))
 
 mul-result : tie.Need-mul-result
-mul-result c = omega (arith, flags-small _ _ _ (there _ _ _ (c .before .before .pre .0) (c .before .before .pre .1)) .0)
+mul-result c = omega (arith, flags-small _ _ _ (in-table _ _ _ (c .before .before .pre .0) (c .before .before .pre .1)) .0)
 
 mul-result-2 : tie.Need-mul-result-2
-mul-result-2 c = omega (arith, flags-small _ _ _ (there _ _ _ (c .before .before .before .pre .0) (c .before .before .before .pre .1)) .1)
+mul-result-2 c = omega (arith, flags-small _ _ _ (in-table _ _ _ (c .before .before .before .pre .0) (c .before .before .before .pre .1)) .1)
 
 add-result : tie.Need-add-result
-add-result c = let f = flags-small _ _ _ (there _ _ _ (c .before .before .before .pre .0) (c .before .before .before .pre .1)) in omega (arith, f .0, f .1, c .before .before .before .pre .2, c .before .before .before .pre .0 .sized .nsym-most)
+add-result c = let f = flags-small _ _ _ (in-table _ _ _ (c .before .before .before .pre .0) (c .before .before .before .pre .1)) in omega (arith, f .0, f .1, c .before .before .before .pre .2, c .before .before .before .pre .0 .sized .nsym-most)
 
 add-result-2 : tie.Need-add-result-2
-add-result-2 c = let f = flags-small _ _ _ (there _ _ _ (c .before .before .before .pre .0) (c .before .before .before .pre .1)) in omega (arith, f .0, f .1, c .before .before .before .pre .2, c .before .before .before .pre .0 .sized .nsym-most)
+add-result-2 c = let f = flags-small _ _ _ (in-table _ _ _ (c .before .before .before .pre .0) (c .before .before .before .pre .1)) in omega (arith, f .0, f .1, c .before .before .before .pre .2, c .before .before .before .pre .0 .sized .nsym-most)
 
 mul-result-3 : tie.Need-mul-result-3
-mul-result-3 c = let f = flags-small _ _ _ (there _ _ _ (c .before .before .before .pre .0) (c .before .before .before .pre .1)) in omega (arith, f .0, f .1, c .before .before .before .pre .2, c .before .before .before .pre .0 .sized .nsym-most)
+mul-result-3 c = let f = flags-small _ _ _ (in-table _ _ _ (c .before .before .before .pre .0) (c .before .before .before .pre .1)) in omega (arith, f .0, f .1, c .before .before .before .pre .2, c .before .before .before .pre .0 .sized .nsym-most)
 
 shared-slice-read-result : tie.Need-shared-slice-read-result
-shared-slice-read-result c = flag-in _ _ _ (there _ _ _ (c .before .before .before .before .pre .0) (c .before .before .before .before .pre .1)) _ (omega arith)
+shared-slice-read-result c = flag-in _ _ _ (in-table _ _ _ (c .before .before .before .before .pre .0) (c .before .before .before .before .pre .1)) _ (omega arith)
 
 returns-2 : tie.Need-returns-2
 returns-2 c = by-flag _ _ _ _ (c .before .before .before .before .pre .0) (c .before .before .before .before .pre .1) (c .before .before .before .if1 .left) (c .before .before .before .before .pre .2)

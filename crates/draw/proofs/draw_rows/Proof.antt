@@ -1,16 +1,14 @@
 -- `draw::draw_rows` meets its contract: the rows of the carriers passed are drawn. Assumes nothing.
 use Prim.Native.Nat.{ℕ, _+_, _-_, _*_, _<_, _≤_}
 use mathlib.Core.Path.{_≡_, refl, sym, ap, _∙_}
-use native.Mathlib.Nat.{le-trans}
 use mathlib.Core.List.{List}
 use lib.ListN.{length}
 use Rattle.level.specs.declared.Layout.{Layout}
-use Rattle.level.specs.Sized.{Sized}
 use borrow.Rule.Slice.PartMut.{same-len-mid}
 use Rattle.complex.specs.Rows.{row-within, row-length}
 use Rattle.draw.specs.declared.Rows.{Rows}
 use Rattle.draw.specs.Draw.{rowsOutcome}
-use Rattle.draw.proofs.RowsLaws.{Collected, collected-none, collected-more, rows-spent, rows-drawn}
+use Rattle.draw.proofs.RowsLaws.{row-few, Collected, collected-none, collected-more, rows-spent, rows-drawn}
 use borrow.Author.Needs.{needs}
 use native.Mathlib.Omega.{arith}
 use Rattle.draw.proofs.draw_rows.Statement.{statement}
@@ -28,20 +26,17 @@ inside : (l : Layout) (c : ℕ) (values : List ℕ) → length values ≡ l .nc 
     → c * l .markers + l .markers ≤ length values
 inside l c values e h = rw e (row-within c (l .nc) (l .markers) h)
 
-few : (l : Layout) (c : ℕ) → Sized l → c < l .nc → c * l .markers + l .markers ≤ 40
-few l c z h = le-trans (row-within c (l .nc) (l .markers) h) (z .marks-most)
-
 loop-holds : tie.Need-loop-holds Inv-loop μ-loop
 loop-holds c = (omega arith, refl, collected-none _ _ _ _)
 
 mul-from : tie.Need-mul-from Inv-loop μ-loop
-mul-from c = omega (arith, few _ _ (c .before .before .before .before .before .pre .0) (c .before .if1 .taken))
+mul-from c = omega (arith, row-few _ _ (c .before .before .before .before .before .pre .0) (c .before .if1 .taken))
 
 add-draw-row : tie.Need-add-draw-row Inv-loop μ-loop
-add-draw-row c = omega (arith, few _ _ (c .before .before .before .before .before .before .pre .0) (c .before .before .if1 .taken))
+add-draw-row c = omega (arith, row-few _ _ (c .before .before .before .before .before .before .pre .0) (c .before .before .if1 .taken))
 
 mul-draw-row : tie.Need-mul-draw-row Inv-loop μ-loop
-mul-draw-row c = omega (arith, few _ _ (c .before .before .before .before .before .before .pre .0) (c .before .before .if1 .taken))
+mul-draw-row c = omega (arith, row-few _ _ (c .before .before .before .before .before .before .pre .0) (c .before .before .if1 .taken))
 
 sub-draw-row : tie.Need-sub-draw-row Inv-loop μ-loop
 sub-draw-row c = omega arith

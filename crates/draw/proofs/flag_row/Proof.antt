@@ -1,21 +1,16 @@
 -- `draw::flag_row` meets its contract: in a row of none the values before k have set their flags. Assumes nothing.
-use Prim.Native.Nat.{ℕ, _+_, _-_, _*_, _<_, _≤_}
+use Prim.Native.Nat.{_+_, _-_, _*_, _≤_}
 use mathlib.Core.Path.{_≡_, sym, ap, _∙_}
-use native.Mathlib.Nat.{le-trans}
 use native.Mathlib.Omega.{arith}
 use lib.ListN.{length}
 use borrow.Author.Needs.{needs}
 use Rattle.complex.specs.Lists.{tabulate}
 use Rattle.complex.specs.ListLaws.{length-tabulate}
-use Rattle.level.specs.declared.Layout.{Layout}
-use Rattle.level.specs.Sized.{Sized}
 use Rattle.complex.specs.Rows.{row-within}
+use Rattle.draw.proofs.RowsLaws.{row-few}
 use Rattle.draw.proofs.FlagLaws.{flagBefore, before-none, before-more, before-all}
 use Rattle.draw.proofs.flag_row.Statement.{statement}
 use Rattle.draw.proofs.flag_row.Tie as tie
-
-few : (l : Layout) (c : ℕ) → Sized l → c < l .nc → c * l .markers + l .markers ≤ 40
-few l c z h = le-trans (row-within c (l .nc) (l .markers) h) (z .marks-most)
 
 abbrev Inv-loop : tie.InvT-loop
 Inv-loop l values c row₀ from k₀ row k = (k ≤ l .markers) × (row ≡ tabulate (flagBefore l values c k) (l .nsym))
@@ -27,16 +22,16 @@ clear-requires : tie.Need-clear-requires Inv-loop μ-loop
 clear-requires c κs = search needs
 
 mul-from : tie.Need-mul-from Inv-loop μ-loop
-mul-from c = let s = c .before .before .before .before .before .before .before in omega (arith, few (s .args .l) (s .args .c) (s .pre .0) (s .pre .2))
+mul-from c = let s = c .before .before .before .before .before .before .before in omega (arith, row-few (s .args .l) (s .args .c) (s .pre .0) (s .pre .2))
 
 loop-holds : tie.Need-loop-holds Inv-loop μ-loop
 loop-holds c = (omega arith, c .before .before .before .clear .ensures ∙ ap (tabulate (λ j. 0)) (c .before .before .before .before .before .before .before .pre .3) ∙ before-none _ _ _ _)
 
 add-set-flag : tie.Need-add-set-flag Inv-loop μ-loop
-add-set-flag c = let s = c .before .before .before .before .before .before .before .before .before .before in omega (arith, few (s .args .l) (s .args .c) (s .pre .0) (s .pre .2))
+add-set-flag c = let s = c .before .before .before .before .before .before .before .before .before .before in omega (arith, row-few (s .args .l) (s .args .c) (s .pre .0) (s .pre .2))
 
 mul-set-flag : tie.Need-mul-set-flag Inv-loop μ-loop
-mul-set-flag c = let s = c .before .before .before .before .before .before .before .before .before .before in omega (arith, few (s .args .l) (s .args .c) (s .pre .0) (s .pre .2))
+mul-set-flag c = let s = c .before .before .before .before .before .before .before .before .before .before in omega (arith, row-few (s .args .l) (s .args .c) (s .pre .0) (s .pre .2))
 
 shared-slice-read-set-flag : tie.Need-shared-slice-read-set-flag Inv-loop μ-loop
 shared-slice-read-set-flag c = let s = c .before .before .before .before .before .before .before .before .before .before .before in omega (arith, row-within (s .args .c) (s .args .l .nc) (s .args .l .markers) (s .pre .2))
