@@ -4,18 +4,13 @@ use mathlib.Core.Path.{_≡_, sym, ap, ap₂, _∙_}
 use mathlib.Core.List.{List}
 use native.Mathlib.Omega.{arith}
 use borrow.Author.Count.{below-more}
-use lib.ListN.{length}
-use lib.Ieee.{Float, nan}
+use lib.Ieee.{Float}
 use Rattle.complex.specs.declared.Complex.{Complex}
-use Rattle.complex.specs.Lists.{tabulate, filled}
-use Rattle.complex.specs.ListLaws.{filled-at, filled-length}
+use Rattle.complex.specs.Lists.{tabulate}
 use Rattle.complex.specs.PairLaws.{complexes-length}
 use Rattle.level.specs.declared.Layout.{Layout}
-use Rattle.level.specs.Layout.{pulseOf}
-use Rattle.level.specs.Rows.{IsLayout}
 use Rattle.level.specs.Sized.{Sized}
 use Rattle.level.specs.SizedLaws.{sized}
-use Rattle.taps.specs.Taps.{receiverTap}
 use Rattle.track.specs.declared.Span.{Span}
 use Rattle.track.specs.Window.{window}
 use Rattle.track.specs.Track.{Track, append}
@@ -27,15 +22,6 @@ use Rattle.fir.specs.Fir.{IsTaps}
 use Rattle.filter.specs.declared.Spans.{Spans}
 use Rattle.filter.specs.Filtered.{filteredAfter, stepsAfter, powersAfter, spansAfter, FilterFits, CarrierFiltered, Filtered}
 use Rattle.filter.specs.Carrier.{CarrierFits, FilteredMade, StepFits, StepsMade, CarrierMade, CarriersMade, SpansFit}
-
--- the receiver's taps at the start of a slice
-pub is-taps : (l : Layout) (t taps : List Float) → IsLayout l → length t ≡ 129 → taps ≡ filled (receiverTap (pulseOf (l .taps))) (l .taps) t → IsTaps l taps
-is-taps l t taps i long e =
-    let few : l .taps ≤ 129 = omega (arith, sized l i) in
-    record {
-      long = rw (e, filled-length (receiverTap (pulseOf (l .taps))) (l .taps) t (omega arith), long) few;
-      values = λ j h. rw e (filled-at (receiverTap (pulseOf (l .taps))) (l .taps) j t nan h);
-    }
 
 -- a span after n ≤ 4,000 new values fits its part
 after-short : (l : Layout) (s : Span) (n : ℕ) → spanAfter (l .keep) s n .len ≤ partLength l

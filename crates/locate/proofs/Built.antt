@@ -1,19 +1,15 @@
 -- Tables that are built from an accepted layout: they fit, and what is found over them is what the tracks say. Assumes nothing.
-use Prim.Native.Nat.{ℕ, _+_, _-_, _*_, _≤_, _<_}
-use mathlib.Core.Path.{_≡_, sym, ap, ap₂, _∙_}
+use Prim.Native.Nat.{ℕ, _+_, _-_, _<_}
+use mathlib.Core.Path.{_≡_, sym, ap₂, _∙_}
 use mathlib.Core.List.{List}
 use native.Mathlib.Omega.{arith}
-use lib.ListN.{length, take, length-take}
+use lib.ListN.{length}
 use lib.Ieee.{Float}
 use Rattle.complex.specs.declared.Complex.{Complex}
 use Rattle.level.specs.declared.Layout.{Layout}
-use Rattle.level.specs.Rows.{IsLayout}
-use Rattle.level.specs.SizedLaws.{sized}
 use Rattle.track.specs.declared.Span.{Span}
-use Rattle.chi.specs.declared.Sum.{Sum}
 use Rattle.chi.specs.declared.Sum.the-variants.{Pilot, Data}
-use Rattle.chi.specs.Table.{perCarrier, Tabled, TableRoom}
-use Rattle.chi.specs.Cells.{kept}
+use Rattle.chi.specs.Table.{Tabled}
 use Rattle.chi.specs.Dot.{DotFits}
 use Rattle.search.specs.declared.Chi.{Chi}
 use Rattle.search.specs.Chi.{Tables}
@@ -58,17 +54,3 @@ module _ (l : Layout) (t : Tables) (memory : List Float) (step power : Span) (t0
   pub built-located : (r : Located) → r ≡ bestFrom flat (t0 - 3) 6 → r ≡ bestAround l t (stepsIn l memory step) (powersIn l memory power) t0
   unfolding bestAround
   built-located r e = e ∙ sym (best-ext (chiIn l t (stepsIn l memory step) (powersIn l memory power)) flat (t0 - 3) 6 same-chi)
-
--- room for the tables
-pub marks-most : (l : Layout) {k : ℕ} → k ≡ perCarrier Pilot l → IsLayout l → l .nc * k ≤ 40
-marks-most l e i = rw e (sized l i .marks-most)
-
-pub cells-most : (l : Layout) {k : ℕ} → k ≡ perCarrier Data l → IsLayout l → l .nc * k ≤ 1500
-cells-most l e i = rw e (kept l i .all)
-
--- the fronts of two arrays that are long enough
-pub front-room : (sum : Sum) (l : Layout) (k : ℕ) (offs : List ℕ) (refs : List Float) → k ≡ perCarrier sum l → l .nc * k ≤ length offs → 2 * (l .nc * k) ≤ length refs
-    → TableRoom sum l (length (take (l .nc * k - 0) offs)) (length (take (2 * (l .nc * k) - 0) refs))
-front-room sum l k offs refs e a b =
-    let n : l .nc * k ≡ l .nc * perCarrier sum l = ap (λ (j : ℕ). l .nc * j) e in
-    record { offs-is = simp length-take (omega arith); refs-is = simp length-take (omega arith) }

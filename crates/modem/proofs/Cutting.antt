@@ -5,16 +5,15 @@ use mathlib.Core.Bool.{Bool, true, false, cond}
 use mathlib.Core.List.{List, [], _∷_, _++_, append-nil, List·Memᴰ, List·Memᴰ·head, List·Memᴰ·tail}
 use native.Mathlib.Omega.{arith}
 use lib.Dec.{ltb}
-use lib.ListN.{length, getD, length-append, List·getD-append}
+use lib.ListN.{length, length-append, List·getD-append}
 use lib.Ieee.{Float}
-use borrow.Author.Tests.{ltb-true, ltb-false, le-ltb}
+use borrow.Author.Tests.{ltb-false, le-ltb}
 use Rattle.complex.specs.declared.Complex.{Complex}
 use Rattle.complex.specs.Arithmetic.{czero}
 use Rattle.complex.specs.Lists.{tabulate}
 use Rattle.level.specs.declared.Layout.{Layout}
 use Rattle.level.specs.Rows.{IsLayout}
 use Rattle.level.specs.RowLaws.{is-layout}
-use Rattle.level.specs.Sized.{Sized}
 use Rattle.level.specs.SizedLaws.{sized}
 use Rattle.steps.specs.Steps.{powerOf}
 use Rattle.filter.specs.Filter.{filteredEnd}
@@ -23,16 +22,15 @@ use Rattle.hold.specs.Offer.{freshHold}
 use Rattle.hold.specs.History.{Detection, Offer}
 use Rattle.hold.specs.Releases.{holdAfter, releases}
 use Rattle.hold.specs.ReleasesLaws.{releases-append}
-use Rattle.search.specs.Chi.{Tables, chiAt}
-use Rattle.search.specs.Search.{evenUp, reach, searchCount, offersFrom}
+use Rattle.search.specs.Chi.{Tables}
+use Rattle.search.specs.Search.{reach, searchCount, offersFrom}
 use Rattle.search.specs.Offers.{search-inside}
 use Rattle.rx.specs.Receiver.{Feed}
 use Rattle.modem.specs.Ideal.{joined, sampleRow, broughtBy, filteredRow, stepRow, powerRow, chiRow, firstPlace, offersOf}
 use Rattle.modem.specs.Calls.{Session, detections}
-use Rattle.modem.specs.Follows.{Follows}
-use Rattle.modem.specs.FeedsFollow.{InRoom, acceptedIn}
+use Rattle.modem.specs.FeedsFollow.{acceptedIn}
 use Rattle.modem.specs.Cutting.{TwoReceivers, SameDetections, GoesOn, LongerSignal}
-use Rattle.modem.proofs.Local.{Agree, chi-same, offers-same, offers-join, filter-same, step-same}
+use Rattle.modem.proofs.Local.{chi-same, offers-ext, offers-join, filter-same, step-same}
 use Rattle.modem.proofs.FeedsFollow.{feeds-follow}
 
 -- ---- feeds that all bring tables t and book b
@@ -140,7 +138,7 @@ module _ (l : Layout) (i : IsLayout l) (start : ℕ) (t : Tables) (b : List Floa
       let y : ℕ → Float = chiRow l start (sampleRow start gs) (broughtBy start gs) in
       ap (λ (n : ℕ). offersFrom y (firstPlace l start) n) q ∙ offers-join y (firstPlace l start) (count fs) rest
       ∙ ap (λ (os : List Offer). os ++ offersFrom y (firstPlace l start + 2 * count fs) rest)
-      (sym (offers-same x y (firstPlace l start) (count fs) first-alike))
+      (sym (offers-ext x y (firstPlace l start) (count fs) first-alike))
 
   -- and all of them where no samples are left over
   offers-alike : more ≡ [] → offersOf l start gs ≡ offersOf l start fs

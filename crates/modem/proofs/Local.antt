@@ -15,7 +15,8 @@ use Rattle.root.specs.Unit.{unitOf}
 use Rattle.level.specs.declared.Layout.{Layout}
 use Rattle.level.specs.Sized.{Sized}
 use Rattle.filter.specs.Filter.{filteredAt, stepAt}
-pub use Rattle.rx.specs.Local.{Agree, chi-same, offers-same, offers-join}
+pub use Rattle.search.specs.Offers.{offers-ext}
+pub use Rattle.rx.specs.Local.{Agree, chi-same, offers-join}
 
 pub filter-same : (l : Layout) → Sized l → (book : List Float) (c : ℕ) (s t : ℕ → Complex) (m : ℕ) → l .delay ≤ m
     → ((i : ℕ) → m ≤ i + l .delay → i ≤ m + l .delay → s i ≡ t i)

@@ -27,6 +27,7 @@ use Rattle.hold.specs.Releases.{holdAfter, releases}
 use Rattle.search.specs.Chi.{Tables}
 use Rattle.search.specs.Search.{offersFrom}
 use Rattle.search.specs.Fits.{offersIn, lastReleased, Searched}
+use Rattle.search.specs.Offers.{offers-ext}
 use Rattle.hold.specs.declared.Hold.{Hold}
 use Rattle.state.specs.declared.SearchPlace.{SearchPlace}
 use Rattle.state.specs.declared.State.{State}
@@ -38,7 +39,7 @@ use Rattle.state.specs.Conditions.{spanEnd}
 use Rattle.rx.specs.Sound.{Sound}
 use Rattle.rx.specs.Numbers.{carrier-in, endWith, placeIn, countWith, chiAfter, end-before, end-after}
 use Rattle.rx.specs.Numbers.{released-are, hold-is, search-is}
-use Rattle.rx.specs.Local.{chi-same, offers-same}
+use Rattle.rx.specs.Local.{chi-same}
 
 -- the spans of a state's carriers
 abbrev pub spansOf : State → Spans
@@ -152,7 +153,7 @@ module _ (l : Layout) (i : IsLayout l) (s : State) (w : Sound l s) (t : Tables) 
       ≡ offersFrom (chiAfter l feed before) p q
   unfolding chiAfter
   offers-in o p q =
-      offers-same _ _ p q
+      offers-ext _ _ p q
       (λ j h.
       chi-same l i t _ _ _ _ (p + 2 * j) (λ c x C u v. ap (λ (y : Carrier). valueAt (y .step) x)
       (sym (carrier-then c C o)))

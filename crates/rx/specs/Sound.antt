@@ -20,7 +20,7 @@ use Rattle.state.specs.declared.SearchPlace.{SearchPlace}
 use Rattle.state.specs.declared.SearchPlace.the-variants.{Fresh, At}
 use Rattle.state.specs.declared.State.{State}
 use Rattle.state.specs.Places.{searchFrom}
-use Rattle.state.specs.Near.{NearPlace, NearHeld, NearBlock}
+use Rattle.state.specs.Near.{NearPlace, NearHeld, NearBlock, search-near, held-near}
 use Rattle.state.specs.Conditions.{spanEnd, outside, otherLayout, wrongHold, longTracks, unequal, unequalTracks}
 use Rattle.state.specs.Conditions.{wrongEnd, lateSamples, unsearched, strayFrom, strayHeld, wrongHeld, placeOutside}
 use Rattle.state.specs.Conditions.{heldOutside, blockOutside, farPositions, wrongState}
@@ -79,17 +79,9 @@ not-unequal : (a b : ℕ) → a ≡ b → not (eqb a b) ≡ false
 not-unequal a b e = rw (eq-eqb a b e)
 
 -- ---- each clause, and back
-place-of : (s : SearchPlace) → placeOutside s ≡ false → NearPlace s
-place-of Fresh e = tt
-place-of (At p) e = ltb-false (2 ^ 49) (p .0) e
-
 place-back : (s : SearchPlace) → NearPlace s → placeOutside s ≡ false
 place-back Fresh e = refl
 place-back (At p) e = le-ltb (2 ^ 49) (p .0) e
-
-held-of : (h : Held) → heldOutside h ≡ false → NearHeld h
-held-of held.Empty e = tt
-held-of (held.At b m) e = ltb-false (2 ^ 49) (b .0) e
 
 held-back : (h : Held) → NearHeld h → heldOutside h ≡ false
 held-back held.Empty e = refl
@@ -175,8 +167,8 @@ module _ (l : Layout) (room : ℕ) (s : State) where
           start-near = ltb-false (2 ^ 49) _ (v₄ .0);
           samples-near = ltb-false (2 ^ 49) _ (v₄ .1);
           filtered-near = ltb-false (2 ^ 49) _ (v₄ .2);
-          place-near = place-of (s .search) (v₄ .3);
-          held-near = held-of (s .hold .best) (v₄ .4);
+          place-near = search-near (s .search) (v₄ .3);
+          held-near = held-near (s .hold .best) (v₄ .4);
           block-near = block-of (s .hold .block) (v₄ .5);
           step-base = d .0;
           step-len = d .1;

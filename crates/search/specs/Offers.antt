@@ -141,9 +141,6 @@ module _ (l : Layout) (t : Tables) (i : IsLayout l) (m : Markers l (t .markers))
       (cells-ext l (allKept l t) power power′ (cellReferenceOf l (t .phasors)) p
       (λ k n K. v _ n (cells-in-frame l (t .markers) i m Data k K .carrier)))
 
-  pub offers-rows : (lo n : ℕ) → offersFrom (chiAt l t step power) lo n ≡ offersFrom (chiAt l t step′ power′) lo n
-  offers-rows lo n = offers-ext (chiAt l t step power) (chiAt l t step′ power′) lo n (λ i I. chi-ext (lo + 2 * i))
-
 -- ---- where a search releases at most once, its answer is the whole list
 pub lone-released : (ds : List Detection) → length ds ≤ 1 → released (lastReleased ds) [] ≡ ds
 unfolding lastReleased released

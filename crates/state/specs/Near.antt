@@ -44,11 +44,11 @@ place-near Fresh p n = omega arith
 place-near (At q) p n = omega arith
 
 -- ---- from condition 17
-search-near : (s : SearchPlace) → placeOutside s ≡ false → NearPlace s
+pub search-near : (s : SearchPlace) → placeOutside s ≡ false → NearPlace s
 search-near Fresh h = tt
 search-near (At p) h = ltb-false _ _ h
 
-held-near : (h : Held) → heldOutside h ≡ false → NearHeld h
+pub held-near : (h : Held) → heldOutside h ≡ false → NearHeld h
 held-near held.Empty e = tt
 held-near (held.At b m) e = ltb-false _ _ e
 

@@ -1,18 +1,16 @@
 -- Symbol s of carrier c with its phasor, and among all of a frame. Assumes nothing.
-use Prim.Native.Nat.{ℕ, _+_, _*_, _/_, _%_, _<_}
-use mathlib.Core.Path.{_≡_, refl, ap, _∙_}
+use Prim.Native.Nat.{ℕ, _+_, _*_, _<_}
+use mathlib.Core.Path.{_≡_, refl, ap}
 use mathlib.Core.List.{List}
-use lib.ListN.{length, getD}
+use lib.ListN.{length}
 use lib.Ieee.{Float}
 use borrow.Author.Tests.{eq-eqb, ne-eqb}
 use Rattle.complex.specs.declared.Complex.{Complex}
-use Rattle.complex.specs.Arithmetic.{czero, cmul}
+use Rattle.complex.specs.Arithmetic.{cmul}
 use Rattle.complex.specs.Lists.{tabulate}
-use Rattle.complex.specs.ListLaws.{getD-tabulate}
 use Rattle.complex.specs.Pairs.{cget}
 use Rattle.complex.specs.Rows.{quotient, remainder}
 use Rattle.level.specs.declared.Layout.{Layout}
-use Rattle.dat.specs.AcceptedLaws.{row-in}
 use Rattle.dat.specs.Cells.{phasor}
 use Rattle.track.specs.declared.Span.{Span}
 use Rattle.drift.specs.Rows.{samplesIn, driftIth}
@@ -41,15 +39,3 @@ module _ (l : Layout) (memory phasors : List Float) (t : ℕ) where
         ≡ symbolsAt l phasors drift (samplesIn l memory samples) (filteredIn l memory filtered) t
     unfolding symbolsAt symbolAt
     by-drift d = rw (ne-eqb (length drift) 0 d) refl
-
--- symbol k of carrier c among all
-module _ (l : Layout) (phasors drift : List Float) (samples : ℕ → Complex) (filtered : ℕ → ℕ → Complex)
-    (p c k : ℕ) where
-  pub symbol-among : c < l .nc → k < l .nsym
-      → getD (symbolsAt l phasors drift samples filtered p) (c * l .nsym + k) czero
-      ≡ symbolAt l phasors drift samples filtered p c k
-  unfolding symbolsAt
-  symbol-among C K =
-      getD-tabulate (λ i. symbolAt l phasors drift samples filtered p (i / l .nsym) (i % l .nsym)) (l .nc * l .nsym)
-      (c * l .nsym + k) czero (row-in (l .nc) (l .nsym) c k C K)
-      ∙ rw (quotient (l .nsym) c k K, remainder (l .nsym) c k K)

@@ -1,29 +1,23 @@
 -- `feed_fault::sample_fault` meets its contract: conditions 16 to 20, one after the other. Assumes nothing.
-use Prim.Native.Nat.{ℕ, _/_, _%_, _≤_}
+use Prim.Native.Nat.{ℕ, _/_}
 use mathlib.Core.Path.{_≡_, refl, sym, _∙_}
-use mathlib.Core.Bool.{true, false, not}
+use mathlib.Core.Bool.{true, false}
 use mathlib.Core.List.{List}
 use native.Mathlib.Omega.{arith}
-use lib.Dec.{eqb}
 use lib.ListN.{length}
-use borrow.Author.Tests.{ltb-false}
 use lib.Ieee.{Float}
 use Rattle.refusal.specs.declared.Refusal.the-variants as no
 use Rattle.refusal.specs.declared.Fault.the-variants.{Clear, Met}
-use Rattle.refusal.specs.Clear.{neither}
 use Rattle.level.specs.declared.Layout.{Layout}
 use Rattle.state.specs.declared.State.{State}
 use Rattle.state.specs.Near.{near-state}
 use Rattle.state.specs.Conditions.{spanEnd, wrongState}
-use Rattle.feed_fault.specs.Conditions.{wrongBook, tooMany, wrongSamples, wrongNumber, wrongParts}
+use Rattle.feed_fault.specs.Conditions.{wrongBook, wrongSamples, wrongNumber, wrongParts}
 use Rattle.feed_fault.specs.Faults.{sampleFault}
+use Rattle.feed_fault.proofs.SampleLaws.{samples-few}
 use borrow.Author.Needs.{needs}
 use Rattle.feed_fault.proofs.sample_fault.Statement.{statement}
 use Rattle.feed_fault.proofs.sample_fault.Tie as tie
-
-few : (n : ℕ) → wrongSamples n ≡ false → n / 2 ≤ 4000
-unfolding wrongSamples
-few n h = ltb-false _ _ (neither (not (eqb (n % 2) 0)) (tooMany (n / 2)) h .1)
 
 module _ (l : Layout) (book : List Float) (s : State) (room number : ℕ) (samples : List Float) where
   f1 : wrongBook book ≡ true → Met no.TurnBook ≡ sampleFault l book s room number samples
@@ -69,7 +63,7 @@ returns-3 : tie.Need-returns-3
 returns-3 c = f3 (c .before .before .before .before .before .before .before .before .args .l) (c .before .before .before .before .before .before .before .before .args .book .now) (c .before .before .before .before .before .before .before .before .args .s) (c .before .before .before .before .before .before .before .before .args .room) (c .before .before .before .before .before .before .before .before .args .number .0) (c .before .before .before .before .before .before .before .before .args .samples .now) (sym (c .before .before .before .before .before .wrong-book .ensures) ∙ c .before .before .before .before .if1 .left) (sym (c .before .before .before .wrong-state .ensures) ∙ c .before .before .if2 .left) (sym (c .before .wrong-samples .ensures) ∙ c .if3 .taken)
 
 wrong-number-requires : tie.Need-wrong-number-requires
-wrong-number-requires c κs = (near-state _ _ _ (sym (c .before .before .before .wrong-state .ensures) ∙ c .before .before .if2 .left) .samples, omega (arith, few _ (sym (c .before .wrong-samples .ensures) ∙ c .if3 .left)))
+wrong-number-requires c κs = (near-state _ _ _ (sym (c .before .before .before .wrong-state .ensures) ∙ c .before .before .if2 .left) .samples, omega (arith, samples-few _ (sym (c .before .wrong-samples .ensures) ∙ c .if3 .left)))
 
 returns-4 : tie.Need-returns-4
 returns-4 c = f4 (c .before .before .before .before .before .before .before .before .before .before .args .l) (c .before .before .before .before .before .before .before .before .before .before .args .book .now) (c .before .before .before .before .before .before .before .before .before .before .args .s) (c .before .before .before .before .before .before .before .before .before .before .args .room) (c .before .before .before .before .before .before .before .before .before .before .args .number .0) (c .before .before .before .before .before .before .before .before .before .before .args .samples .now) (sym (c .before .before .before .before .before .before .before .wrong-book .ensures) ∙ c .before .before .before .before .before .before .if1 .left) (sym (c .before .before .before .before .before .wrong-state .ensures) ∙ c .before .before .before .before .if2 .left) (sym (c .before .before .before .wrong-samples .ensures) ∙ c .before .before .if3 .left) (sym (c .before .wrong-number .ensures) ∙ c .if4 .taken)

@@ -2,7 +2,8 @@
 use native.Mathlib.Omega.{arith}
 use borrow.Author.Needs.{needs}
 use Rattle.level.specs.SizedLaws.{sized}
-use Rattle.filter.proofs.Carriers.{is-taps, all-made, filtered-none, spans-fit}
+use Rattle.fir.proofs.Taps.{is-taps}
+use Rattle.filter.proofs.Carriers.{all-made, filtered-none, spans-fit}
 use Rattle.filter.proofs.filter_carriers.Statement.{statement}
 use Rattle.filter.proofs.filter_carriers.Tie as tie
 

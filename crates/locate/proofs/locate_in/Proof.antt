@@ -1,7 +1,7 @@
 -- `locate::locate_in` meets its contract: its arrays have room for the tables of every layout. Assumes nothing.
 use native.Mathlib.Omega.{arith}
 use Rattle.chi.specs.declared.Sum.the-variants.{Pilot, Data}
-use Rattle.locate.proofs.Built.{marks-most, cells-most, front-room}
+use Rattle.search.proofs.Built.{marks-most, cells-most, front-room}
 use borrow.Author.Needs.{needs}
 use Rattle.locate.proofs.locate_in.Statement.{statement}
 use Rattle.locate.proofs.locate_in.Tie as tie

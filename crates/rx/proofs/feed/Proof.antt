@@ -1,12 +1,12 @@
 -- `rx::feed` meets its contract: the layout's refusal, or the first fault of the rest, or the accepted feed. Assumes nothing.
-use Prim.Native.Nat.{ℕ, _-_, _/_, _%_, _≤_}
+use Prim.Native.Nat.{ℕ, _-_, _/_}
 use mathlib.Core.Path.{_≡_, refl, sym, ap, _∙_}
 use mathlib.Core.Bool.{false, not}
 use mathlib.Core.List.{List}
 use lib.ListN.{length}
 use lib.Ieee.{Float}
 use lib.Dec.{eqb}
-use borrow.Author.Tests.{ltb-false, eqb-true, not-false}
+use borrow.Author.Tests.{eqb-true, not-false}
 use Rattle.refusal.specs.declared.Refusal.{Refusal}
 use Rattle.refusal.specs.declared.Fault.{Fault}
 use Rattle.refusal.specs.declared.Fault.the-variants.{Clear, Met}
@@ -28,8 +28,9 @@ use Rattle.rx.specs.declared.FeedAnswer.the-variants.{Refused}
 use Rattle.rx.specs.Receiver.{fed}
 use Rattle.rx.specs.View.{view}
 use Rattle.state.specs.Conditions.{wrongState}
-use Rattle.feed_fault.specs.Conditions.{wrongBook, tooMany, wrongSamples}
+use Rattle.feed_fault.specs.Conditions.{wrongBook, wrongSamples}
 use Rattle.feed_fault.specs.Faults.{sampleFault}
+use Rattle.feed_fault.proofs.SampleLaws.{samples-few}
 use Rattle.rx.specs.Feed.{Given, given, feedFault, feedOf, feedOutcome, FedBy}
 use Rattle.rx.specs.Sound.{sound}
 use Rattle.rx.specs.Ready.{Ready}
@@ -60,10 +61,6 @@ book-long : (book : List Float) → wrongBook book ≡ false → length book ≡
 unfolding wrongBook
 book-long book h = eqb-true _ _ (not-false _ (neither (not (eqb (length book) 6000)) _ h .0))
 
-few : (n : ℕ) → wrongSamples n ≡ false → n / 2 ≤ 4000
-unfolding wrongSamples
-few n h = ltb-false _ _ (neither (not (eqb (n % 2) 0)) (tooMany (n / 2)) h .1)
-
 passed : (l : Layout) (g : Given) (s : State) (room : ℕ) → IsLayout l → feedFault l g s room ≡ Clear → Passed l g s room
 unfolding feedFault sampleFault
 passed l g s room i h =
@@ -74,7 +71,7 @@ passed l g s room i h =
     let d = clear-first _ (wrongSamples (length (g .samples))) _ (c .1) in
     let w = sound l room s (c .0) in
     record {
-      ready = record { layout = i; sound = w .0; room-is = w .1; few = few (length (g .samples)) (d .0) };
+      ready = record { layout = i; sound = w .0; room-is = w .1; few = samples-few (length (g .samples)) (d .0) };
       book = book-long (g .book) (b .0);
       markers = t .0;
       phasors = t .1;
