@@ -1,13 +1,12 @@
 -- The alphabets: how many points each has, and that their parts are at most 2. Assumes nothing.
-use Prim.Native.Nat.{ℕ, zero, suc, _^_, _≤_, _<_}
+use Prim.Native.Nat.{ℕ, zero, suc, _^_, _≤_}
 use mathlib.Core.Path.{_≡_, refl, sym}
 use mathlib.Core.Bool.{Bool, true, false, not, _||_, cond}
-use mathlib.Core.List.{List}
 use native.Mathlib.Omega.{arith}
 use native.Mathlib.Nat.{zero-lt-suc, pow-le-pow-right}
 use lib.Dec.{T, lit≤, eqb, eqb→eq}
 use lib.ListN.{length}
-use lib.Ieee.{Float, binary64, ofBits, neg, le}
+use lib.Ieee.{Float, binary64, ofBits, neg}
 use Rattle.complex.specs.declared.Complex.{Complex}
 use Rattle.refusal.specs.Any.{any}
 use Rattle.refusal.specs.AnyLaws.{any-below}
@@ -17,7 +16,7 @@ use Rattle.laws.specs.Floats.{Within}
 use Rattle.laws.specs.Ranges.{in-size-within}
 use Rattle.constellation.specs.Alphabet.{alphabet}
 use Rattle.demap.specs.Nearest.{pointAt}
-use Rattle.demap.specs.SignLaw.{PartsWithin, PointsWithin}
+use Rattle.demap.specs.SignLaw.{PointsWithin}
 use Rattle.alphabets.specs.Alphabets.{bitsOf, points}
 
 pub points-length : (w : ℕ) → 1 ≤ w → w ≤ 5 → length (points w) ≡ 2 ^ w
@@ -48,13 +47,13 @@ none-large (suc (suc (suc (suc zero)))) l h = refl
 none-large (suc (suc (suc (suc (suc zero))))) l h = refl
 none-large (suc (suc (suc (suc (suc (suc w)))))) l h = absurd (omega arith)
 
+pub not-false : (b : Bool) → not b ≡ false → T b
+not-false true e = tt
+not-false false e = absurd (let z : _≡_ {A = ℕ} 0 1 = cc in omega arith)
+
 part-near : (x : Float) → not (inSize two x) ≡ false → Within x 20
 unfolding ofBits
-part-near x h = in-size-within two x 20 (lit≤ tt) (is-true (inSize two x) h)
-  where
-    is-true : (b : Bool) → not b ≡ false → T b
-    is-true true e = tt
-    is-true false e = absurd (let z : _≡_ {A = ℕ} 0 1 = cc in omega arith)
+part-near x h = in-size-within two x 20 (lit≤ tt) (not-false (inSize two x) h)
 
 pub points-within : (w : ℕ) → 1 ≤ w → w ≤ 5 → PointsWithin w 20 (points w)
 unfolding large

@@ -5,7 +5,7 @@
 use mathlib.Core.Path.{_≡_, refl, sym, ap, _∙_, subst}
 use mathlib.Core.Logic.{_⊎_, inl, inr, ⊎-elim}
 use Prim.Native.Nat.{ℕ, zero, suc, _*_, _^_, _≤_, _<_}
-use native.Mathlib.Nat.{le-trans, le-of-eq, le-of-lt, lt-of-not-le, not-le-of-lt, lt-of-lt-of-le, le-of-suc-le-suc}
+use native.Mathlib.Nat.{le-trans, le-of-eq, le-of-lt, le-of-suc-le-suc}
 use native.Mathlib.Nat.{eq-or-lt-of-le, eq-zero-or-pos, zero-mul, mul-one, mul-comm, mul-assoc, mul-left-comm}
 use native.Mathlib.Nat.{mul-right-comm, mul-mul-mul-comm, mul-le-mul, mul-le-mul-left, mul-le-mul-right}
 use native.Mathlib.Nat.{le-of-mul-le-mul-right, le-of-mul-le-mul-left, mul-pos, not-suc-le-zero}
@@ -28,21 +28,13 @@ use Rattle.laws.specs.Rounding.{smallest, round-zero, round-half, zero-not-abov
 use Rattle.laws.specs.Operations.{square-is, div-is, add-finite, div-finite, add-plain, add-comm, add-ge, add-zeros}
 use Rattle.laws.specs.Operations.{add-nought}
 use Rattle.root.specs.Root.{normOf, sqrtOf}
+use Rattle.root.specs.Squares.{root-le-root}
 use Rattle.root.specs.RootFacts.{sqrt-zero, sqrt-square}
 use Rattle.root.specs.NormLaws.{norm-sqr-finite, norm-sqr-fits, norm-finite, norm-plain, norm-fits}
 use Rattle.demap.specs.Gain.{sumOfNorms, meanNorm}
 use Rattle.demap.specs.SignLaw.{PartsWithin}
 
 -- ---- numbers
-square-le : (a b : ℕ) → a * a ≤ b * b → a ≤ b
-square-le a b h = le-of-suc-le-suc (lt-of-not-le (λ (g : suc b ≤ a). not-le-of-lt (less g) h))
-  where
-    wide : (b : ℕ) → b * b < suc b * suc b
-    wide b = omega arith
-
-    less : b < a → b * b < a * a
-    less g = lt-of-lt-of-le (wide b) (mul-le-mul g g)
-
 -- x / p ≤ y / q, squared
 square-cross : (x p y q : ℕ) → x * q ≤ y * p → x * x * (q * q) ≤ y * y * (p * p)
 square-cross x p y q h =
@@ -54,7 +46,7 @@ times c x y u v h =
 
 unsquare : (p d s e : ℕ) → p * p * (e * e) ≤ 16 * (s * s) * (d * d) → p * e ≤ 4 * (s * d)
 unsquare p d s e h =
-    square-le (p * e) (4 * (s * d)) (le-trans (le-of-eq (mul-mul-mul-comm p e p e)) (le-trans h (le-of-eq (four s d))))
+    root-le-root (p * e) (4 * (s * d)) (le-trans (le-of-eq (mul-mul-mul-comm p e p e)) (le-trans h (le-of-eq (four s d))))
   where
     four : (s d : ℕ) → 16 * (s * s) * (d * d) ≡ 4 * (s * d) * (4 * (s * d))
     four s d = omega arith

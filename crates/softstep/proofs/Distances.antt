@@ -1,6 +1,6 @@
 -- The soft bits by the distances of all points are 01's. Assumes nothing.
 use Prim.Native.Nat.{ℕ, zero, suc, _*_, _/_, _%_, _^_, _<_}
-use mathlib.Core.Path.{_≡_, refl, sym, ap, _∙_, fun-ext}
+use mathlib.Core.Path.{_≡_, refl, ap, fun-ext}
 use mathlib.Core.Bool.{false}
 use mathlib.Core.List.{List}
 use native.Mathlib.Omega.{arith}
@@ -12,7 +12,7 @@ use Rattle.demap.specs.Apart.{lesserOf}
 use Rattle.demap.specs.Candidates.{candidate}
 use Rattle.demap.specs.Soft.{leastOf, alternative, softOf, softBit}
 use Rattle.alphabets.specs.Alphabets.{points}
-use Rattle.alphabets.specs.Distances.{distancesFrom, distanceAt, nearestIn}
+use Rattle.alphabets.specs.Distances.{distancesFrom, distanceAt}
 use Rattle.alphabets.specs.DistanceLaws.{distance-is, nearest-in}
 use Rattle.softstep.specs.Rows.{Row, leastInRow, weighed, bitIn}
 

@@ -1,8 +1,8 @@
 -- Of two separate points one is at a squared distance of 2^-6 or more from any step, as rounded. Assumes nothing.
-use mathlib.Core.Path.{_≡_, sym, _∙_, subst}
+use mathlib.Core.Path.{sym, subst}
 use mathlib.Core.Logic.{_⊎_, inl, inr}
 use Prim.Native.Nat.{ℕ, _*_, _^_, _≤_}
-use native.Mathlib.Nat.{le-trans, le-of-eq, mul-pos, mul-le-mul, mul-mul-mul-comm}
+use native.Mathlib.Nat.{mul-pos, mul-le-mul}
 use native.Mathlib.Omega.{arith}
 use mathlib.Core.Bool.{false}
 use lib.Dec.{T, lit≤}
@@ -15,7 +15,7 @@ use Rattle.complex.specs.Arithmetic.{cx, normSqr}
 use Rattle.laws.specs.Floats.{plain}
 use Rattle.laws.specs.Plain.{plain-finite}
 use Rattle.laws.specs.Operations.{square-is, add-comm, add-ge}
-use Rattle.root.specs.NormLaws.{Squared, norm-sqr-finite}
+use Rattle.root.specs.NormLaws.{norm-sqr-finite}
 use Rattle.demap.specs.Nearest.{distSqr}
 use Rattle.softstep.specs.StepLaw.{Apart}
 use Rattle.softstep.proofs.Gaps.{AtLeast, round-at-least, sub-at-least, one-is-far}

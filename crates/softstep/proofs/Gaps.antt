@@ -1,17 +1,16 @@
 -- Of two numbers that lie 1/4 apart, every third one is 1/8 or more away from one, as rounded. Assumes nothing.
-use mathlib.Core.Path.{_≡_, refl, sym, ap, _∙_, subst}
+use mathlib.Core.Path.{_≡_, refl, sym, ap, subst}
 use mathlib.Core.Logic.{_⊎_, inl, inr}
 use Prim.Native.Nat.{ℕ, suc, _+_, _-_, _*_, _^_, _≤_, _<_}
-use native.Mathlib.Nat.{le-trans, le-of-eq, le-of-suc-le-suc, lt-of-not-le, mul-pos, mul-le-mul-right, eq-zero-or-pos}
+use native.Mathlib.Nat.{le-of-suc-le-suc, lt-of-not-le, mul-pos, mul-le-mul-right, eq-zero-or-pos}
 use native.Mathlib.Omega.{arith}
-use mathlib.Core.Bool.{Bool, true, false, not, _&&_, cond}
+use mathlib.Core.Bool.{Bool, true, false, _&&_, cond}
 use lib.Dec.{T, ltb, ltb→lt, lt→ltb, lit≤}
 use lib.Ieee.{Float, nan, inf, fin, binary64, up, down, round, neg, sum, add, sub}
 use lib.Pow.{pow-pos}
 use lib.Ieee.Scale.{finite}
 use lib.Ieee.Positive.{num, den, den-pos}
 use Rattle.laws.specs.Sign.{round-neg}
-use Rattle.laws.specs.Floats.{plain}
 use Rattle.laws.specs.Plain.{finite-plain}
 use Rattle.laws.specs.Sign.{round-signed}
 use Rattle.laws.specs.Size.{round-lower}
@@ -164,7 +163,7 @@ triangle (fin s k e) (fin t m d) (fin v n g) a b c = go s t v
     go false false true = y-apart A X Y (down e) (down d) (down g) _ F
     go false false false = all-alike A X Y (down e) (down d) (down g) _ _ _ F G H
 
-at-least-or : (j n : ℕ) → (n ≤ j) ⊎ (j < n)
+pub at-least-or : (j n : ℕ) → (n ≤ j) ⊎ (j < n)
 at-least-or j n = elim (eq-zero-or-pos (n - j)) [ inl e ↦ inl (omega arith) | inr p ↦ inr (omega arith) ]
 
 both-near : (f g h p q r : ℕ) → 0 < q → h * p ≤ f * r + g * q → q * r ≤ 4 * h → 8 * f < p * q → 8 * g < p * r → ⊥

@@ -12,7 +12,7 @@ use Rattle.refusal.specs.AnyLaws.{any-below}
 use Rattle.demap.specs.Candidates.{alternatives, candidate}
 use Rattle.alphabets.specs.Alphabets.{points}
 use Rattle.softstep.specs.Rows.{Row, Rows}
-use Rattle.softstep.specs.StepWithin.{not-false}
+use Rattle.alphabets.specs.AlphabetLaws.{not-false}
 
 -- a row's labels are not all the first four of a list, its last one repeated
 unfoldable pub misses : ℕ → ℕ → List ℕ → Bool

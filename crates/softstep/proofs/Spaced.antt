@@ -1,8 +1,8 @@
 -- Two different floats of which the greater is at least 2^-6 are 2^-59 or more apart, as rounded. Assumes nothing.
 use mathlib.Core.Path.{_≡_, refl, sym, ap, _∙_, subst}
-use mathlib.Core.Logic.{_⊎_, inl, inr}
+use mathlib.Core.Logic.{inl, inr}
 use Prim.Native.Nat.{ℕ, suc, _+_, _-_, _*_, _^_, _≤_, _<_}
-use native.Mathlib.Nat.{le-trans, le-of-eq, mul-pos, mul-assoc, mul-le-mul-left, mul-le-mul-right, eq-zero-or-pos}
+use native.Mathlib.Nat.{le-trans, mul-pos, mul-assoc, mul-le-mul-left, mul-le-mul-right}
 use native.Mathlib.Nat.{le-of-mul-le-mul-right, lt-of-mul-lt-mul-right, two-pow-succ, mul-lt-mul-of-pos-right}
 use native.Mathlib.Omega.{arith}
 use mathlib.Core.Bool.{false}
@@ -15,10 +15,7 @@ use Rattle.laws.specs.Floats.{plain}
 use Rattle.laws.specs.Plain.{le-cross, plain-finite, value-plain}
 use Rattle.laws.specs.Rounding.{in-units}
 use Rattle.laws.specs.Operations.{sub-is, sub-plain}
-use Rattle.softstep.proofs.Gaps.{AtLeast, round-at-least}
-
-at-least-or : (j n : ℕ) → (n ≤ j) ⊎ (j < n)
-at-least-or j n = elim (eq-zero-or-pos (n - j)) [ inl e ↦ inl (omega arith) | inr p ↦ inr (omega arith) ]
+use Rattle.softstep.proofs.Gaps.{AtLeast, at-least-or, round-at-least}
 
 split : (j t : ℕ) → t ≤ j → 2 ^ j ≡ 2 ^ (j - t) * 2 ^ t
 split j t l =

@@ -4,15 +4,13 @@ use mathlib.Core.Logic.{_⊎_, inl, inr}
 use Prim.Native.Nat.{ℕ, zero, suc, _*_, _^_, _≤_, _<_}
 use native.Mathlib.Nat.{mul-pos}
 use native.Mathlib.Omega.{arith}
-use mathlib.Core.Bool.{Bool, true, false, not, _&&_, _||_}
-use mathlib.Core.List.{List}
+use mathlib.Core.Bool.{Bool, true, false, not, _&&_}
 use borrow.Author.Tests.{eq-eqb, ne-eqb}
 use lib.Dec.{T, eqb, eqb→eq, leb, leb→le, lit≤}
 use lib.ListN.{length}
-use lib.Ieee.{Float, nan, inf, fin, binary64, ofBits, up, down, neg, le}
+use lib.Ieee.{Float, nan, inf, fin, ofBits, up, down, neg, le}
 use lib.Ieee.Fits.{and-l, and-r, down-pos}
 use lib.Ieee.Positive.{num, den}
-use Rattle.refusal.specs.declared.Fault.the-variants.{Clear}
 use Rattle.refusal.specs.declared.Refusal.the-variants.{AlphabetSize, Buffer, StepSize, NoiseVariance}
 use Rattle.refusal.specs.Any.{any}
 use Rattle.refusal.specs.AnyLaws.{any-below}
@@ -20,16 +18,16 @@ use Rattle.refusal.specs.Clear.{clear-first}
 use Rattle.complex.specs.declared.Complex.{Complex}
 use Rattle.constellation.specs.Alphabet.{alphabet}
 use Rattle.laws.specs.Tests.{inRange}
-use Rattle.laws.specs.Floats.{Signed, Within}
+use Rattle.laws.specs.Floats.{Signed}
 use Rattle.laws.specs.Order.{clash}
 use Rattle.laws.specs.Rounding.{zero-not-above}
 use Rattle.demap.specs.Nearest.{pointAt}
 use Rattle.demap.specs.SignLaw.{milli, Variance, PartsWithin, SignLaw}
 use Rattle.demap.specs.SoftLaws.{soft-sign}
 use Rattle.alphabets.specs.Alphabets.{bitsOf, points}
-use Rattle.alphabets.specs.AlphabetLaws.{points-within, bits-known}
+use Rattle.alphabets.specs.AlphabetLaws.{not-false, points-within, bits-known}
 use Rattle.softstep.specs.Step.{largestVariance, wrongStep, wrongVariance, stepFault}
-use Rattle.softstep.specs.StepWithin.{not-false, step-within}
+use Rattle.softstep.specs.StepWithin.{step-within}
 use Rattle.softstep.specs.StepLaw.{gap, Apart, Separate, ZeroLaw, StepLaw, StepLaws}
 use Rattle.softstep.proofs.ZeroLaw.{zero-law}
 
@@ -65,11 +63,7 @@ separate w low high i j I J n =
     (subst (λ (b : Bool). (not b && (close (x .re) (y .re) && close (x .im) (y .im))) ≡ false) (ne-eqb i j n) e)
   where
     not-close : (u v : Float) → close u v ≡ false → Apart u v
-    not-close u v h = leb→le (den u * den v) (4 * gap u v) (is-true (leb (den u * den v) (4 * gap u v)) h)
-      where
-        is-true : (b : Bool) → not b ≡ false → T b
-        is-true true e = tt
-        is-true false e = clash (sym e)
+    not-close u v h = leb→le (den u * den v) (4 * gap u v) (not-false (leb (den u * den v) (4 * gap u v)) h)
 
     apart : (u v s t : Float) (a b : Bool) → close u v ≡ a → close s t ≡ b → (true && (a && b)) ≡ false
         → Apart u v ⊎ Apart s t

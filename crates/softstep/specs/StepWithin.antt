@@ -1,19 +1,15 @@
 -- A step that row 32 lets through has parts of at most 2^20 in size. Assumes nothing.
-use mathlib.Core.Path.{_≡_, sym}
-use mathlib.Core.Bool.{Bool, true, false, not}
-use lib.Dec.{T, lit≤}
+use mathlib.Core.Path.{_≡_}
+use mathlib.Core.Bool.{false, not}
+use lib.Dec.{lit≤}
 use lib.Ieee.{ofBits}
 use Rattle.refusal.specs.Clear.{neither}
 use Rattle.complex.specs.declared.Complex.{Complex}
 use Rattle.laws.specs.Tests.{inSize}
-use Rattle.laws.specs.Order.{clash}
 use Rattle.laws.specs.Ranges.{in-size-within}
 use Rattle.demap.specs.SignLaw.{PartsWithin}
+use Rattle.alphabets.specs.AlphabetLaws.{not-false}
 use Rattle.softstep.specs.Step.{largestPart, wrongStep}
-
-pub not-false : (b : Bool) → not b ≡ false → T b
-not-false true e = tt
-not-false false e = clash (sym e)
 
 pub step-within : (z : Complex) → wrongStep z ≡ false → PartsWithin z 20
 unfolding wrongStep ofBits
