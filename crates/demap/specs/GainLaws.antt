@@ -46,7 +46,8 @@ times c x y u v h =
 
 unsquare : (p d s e : ℕ) → p * p * (e * e) ≤ 16 * (s * s) * (d * d) → p * e ≤ 4 * (s * d)
 unsquare p d s e h =
-    root-le-root (p * e) (4 * (s * d)) (le-trans (le-of-eq (mul-mul-mul-comm p e p e)) (le-trans h (le-of-eq (four s d))))
+    root-le-root (p * e) (4 * (s * d))
+    (le-trans (le-of-eq (mul-mul-mul-comm p e p e)) (le-trans h (le-of-eq (four s d))))
   where
     four : (s d : ℕ) → 16 * (s * s) * (d * d) ≡ 4 * (s * d) * (4 * (s * d))
     four s d = omega arith

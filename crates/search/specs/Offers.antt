@@ -4,21 +4,12 @@ use mathlib.Core.Path.{_≡_, refl, sym, ap, ap₂, _∙_}
 use mathlib.Core.Bool.{Bool, true, false, _&&_, cond}
 use mathlib.Core.List.{List, [], _∷_, _++_, append-nil}
 use native.Mathlib.Omega.{arith}
-use lib.ListN.{length, getD}
+use lib.ListN.{length}
 use lib.Ieee.{Float}
-use Rattle.complex.specs.declared.Complex.{Complex}
-use Rattle.complex.specs.Arithmetic.{cmul}
-use Rattle.complex.specs.SumLaws.{sum-ext}
 use Rattle.complex.specs.Lists.{tabulate}
 use Rattle.complex.specs.ListLaws.{tabulate-ext}
 use Rattle.refusal.specs.declared.Position.{Position}
 use Rattle.level.specs.declared.Layout.{Layout}
-use Rattle.level.specs.Rows.{IsLayout}
-use Rattle.dat.specs.Cells.{Cell, cellAt, referenceOf, cellReferenceOf}
-use Rattle.dat.specs.Accepted.{Markers}
-use Rattle.chi.specs.declared.Sum.the-variants.{Pilot, Data}
-use Rattle.chi.specs.Table.{cellsIn}
-use Rattle.chi.specs.Cells.{cells-in-frame}
 use Rattle.hold.specs.declared.Hold.{Hold}
 use Rattle.hold.specs.declared.Held.{Held}
 use Rattle.hold.specs.declared.Held.the-variants.{Empty, At}
@@ -32,7 +23,6 @@ use Rattle.hold.specs.Offer.{atLeast, greater, due, taken, keeping, releasing, 
 use Rattle.hold.specs.History.{Offer, Detection}
 use Rattle.hold.specs.Releases.{offeredIn, released, holdAfter, releases}
 use Rattle.hold.specs.ReleasesLaws.{holdAfter-append, releases-append}
-use Rattle.search.specs.Chi.{Tables, allMarks, allKept, cellPosition, cellSum, pilotSum, dataSum, chiOf, chiAt}
 use Rattle.search.specs.Search.{reach, searchCount, offerOf, offersFrom}
 use Rattle.search.specs.Fits.{latest, offeredNext, lastReleased, Searched, HeldBelow, HoldFits}
 
@@ -117,29 +107,6 @@ search-inside l p e i h = inside (reach l) h
   where
     inside : (r : ℕ) → i < (e - r - p + 1) / 2 → p + 2 * i + r < e
     inside r h = omega arith
-
-cells-ext : (l : Layout) (xs : List Cell) (row row′ ref : ℕ → ℕ → Complex) (p : ℕ)
-    → ((k m : ℕ) → k < length xs → row (getD xs k (cellAt 0 0) .carrier) m ≡ row′ (getD xs k (cellAt 0 0) .carrier) m)
-    → cellSum l xs row ref p ≡ cellSum l xs row′ ref p
-unfolding cellSum
-cells-ext l xs row row′ ref p h =
-    sum-ext _ (λ k. let x = getD xs k (cellAt 0 0) in cmul (row′ (x .carrier) (cellPosition l p x))
-    (ref (x .carrier) (x .symbol))) (length xs)
-    (λ k K. let x = getD xs k (cellAt 0 0) in ap (λ (z : Complex). cmul z (ref (x .carrier) (x .symbol)))
-    (h k (cellPosition l p x) K))
-
--- rows that agree on the layout's carriers
-module _ (l : Layout) (t : Tables) (i : IsLayout l) (m : Markers l (t .markers))
-    (step step′ power power′ : ℕ → ℕ → Complex)
-    (u : (c n : ℕ) → c < l .nc → step c n ≡ step′ c n) (v : (c n : ℕ) → c < l .nc → power c n ≡ power′ c n) where
-  pub chi-ext : (p : ℕ) → chiAt l t step power p ≡ chiAt l t step′ power′ p
-  unfolding chiAt pilotSum dataSum allMarks allKept cellsIn
-  chi-ext p =
-      ap₂ (chiOf l t)
-      (cells-ext l (allMarks l t) step step′ (referenceOf l (t .phasors)) p
-      (λ k n K. u _ n (cells-in-frame l (t .markers) i m Pilot k K .carrier)))
-      (cells-ext l (allKept l t) power power′ (cellReferenceOf l (t .phasors)) p
-      (λ k n K. v _ n (cells-in-frame l (t .markers) i m Data k K .carrier)))
 
 -- ---- where a search releases at most once, its answer is the whole list
 pub lone-released : (ds : List Detection) → length ds ≤ 1 → released (lastReleased ds) [] ≡ ds
