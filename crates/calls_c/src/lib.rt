@@ -147,7 +147,8 @@ pub extern "C" fn dimpstea_nearest_point(
     distance: &mut f64,
     runner_up: &mut f64,
 ) -> u32
-    ensures { λ r. ⌜ NearestPointCall size re im (now (label .entry)) (now (distance .entry)) (now («runner_up» .entry)) r
+    ensures { λ r. ⌜ NearestPointCall size re im (now (label .entry)) (now (distance .entry))
+        (now («runner_up» .entry)) r
         (now (label .exit)) (now (distance .exit)) (now («runner_up» .exit)) ⌝ }
 {
     let z = Complex { re: re, im: im };

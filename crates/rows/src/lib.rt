@@ -101,8 +101,8 @@ fn put_frame(
 )
     requires { ⌜ FrameReady l (now markers) (now phasors) (now payload) (now draws) c f at (length (now rows)) ⌝ }
     ensures { λ _. ⌜
-        now (rows .exit) ≡ storedFrom (frameSymbol l (now (markers .entry)) (now (phasors .entry)) (now (payload .entry))
-        (now (draws .entry)) c f) at (l .nsym) (now (rows .entry))
+        now (rows .exit) ≡ storedFrom (frameSymbol l (now (markers .entry)) (now (phasors .entry))
+        (now (payload .entry)) (now (draws .entry)) c f) at (l .nsym) (now (rows .entry))
         ⌝ }
 {
     let from = c * l.nsym;

@@ -62,7 +62,8 @@ fn filtered_symbols(
     requires { ⌜ FilteredFit l filtered t × (length (now memory) ≡ 2 * memoryLength l)
         × Phasors l (now phasors) × (length (now out) ≡ 2 * (l .nc * l .nsym)) ⌝ }
     ensures { λ _. ⌜ now (out .exit)
-        ≡ parts (tabulate (filteredIth l (now (memory .entry)) (now (phasors .entry)) filtered t) (l .nc * l .nsym)) ⌝ }
+        ≡ parts (tabulate (filteredIth l (now (memory .entry)) (now (phasors .entry)) filtered t)
+        (l .nc * l .nsym)) ⌝ }
 {
     let mut c = 0;
     while c < l.nc {

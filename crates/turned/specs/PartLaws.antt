@@ -31,7 +31,8 @@ module _ (v taps : List Float) where
   unfolding firAt
   more i k d s e =
       let there : i + k + d ≡ i + d + k = omega arith in
-      ap₂ cadd e (ap (λ (p : ℕ). cscale (cget v p) (getD taps k nan)) there) ∙ sym (sum-step (tapTerm v taps (i + d)) k)
+      ap₂ cadd e (ap (λ (p : ℕ). cscale (cget v p) (getD taps k nan)) there)
+      ∙ sym (sum-step (tapTerm v taps (i + d)) k)
 
   first : (i k : ℕ) (s : Complex) → s ≡ firAt v taps k i
       → cadd s (cscale (cget v (i + k)) (getD taps k nan)) ≡ firAt v taps (k + 1) i
