@@ -16,9 +16,9 @@
  * may run at once, as long as no two are lent the same state, memory or buffer for writing.
  *
  * The stack that a call needs, accepted or refused, in bytes:
- *    260,000  feed                         2,000  modulate, nco_phase, open, decibels
- *     84,000  read                         1,000  layout, offer, payload_bits, meter, soft_step,
- *     46,000  locate                              nearest_point, draw_markers
+ *    256,000  feed                         2,000  modulate, nco_phase, open, decibels
+ *     80,000  read                         1,000  layout, offer, payload_bits, meter, soft_step,
+ *     43,000  locate                              nearest_point, draw_markers
  *     38,000  by_time, by_carrier
  *      8,000  carrier_audio, residual
  * Measured on x86-64 Linux by `bench/run --stack` and rounded up: the most over all layouts of what a call changed

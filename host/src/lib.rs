@@ -7,7 +7,7 @@
 //!
 //! What document 01 leaves to the host is made in [`rows`]: the turn book, phasors, wave rows and drift rows.
 //!
-//! The calls need some stack of the thread that makes them: a feed 260,000 bytes, a reading 84,000, locating 46,000
+//! The calls need some stack of the thread that makes them: a feed 256,000 bytes, a reading 80,000, locating 43,000
 //! (measured on x86-64 Linux; include/dimpstea.h has every call).
 //!
 //! ```

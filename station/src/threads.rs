@@ -1,7 +1,7 @@
 //! Work on all cores, or on as many threads as are asked for.
 use crate::error::Error;
 
-/// Stack of a thread: a feed needs 260,000 bytes.
+/// Stack of a thread: a feed needs 256,000 bytes.
 const STACK: usize = 4 << 20;
 
 /// A pool of so many threads; none asked for is one for each core.
