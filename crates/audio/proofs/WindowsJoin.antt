@@ -1,15 +1,15 @@
 -- Windows of any cutting join to one signal, and calls that meet leave it: `AnyCutting`, `PhasesLend`, `CallsJoin`. Assumes nothing.
-use Prim.Native.Nat.{ℕ, zero, suc, _+_, _-_, _*_, _<_, _≤_}
+use Prim.Native.Nat.{ℕ, _+_, _-_, _*_, _<_, _≤_}
 use mathlib.Core.Path.{_≡_, refl, sym, ap, _∙_}
-use mathlib.Core.List.{List, [], _∷_, _++_, append-assoc, append-nil}
+use mathlib.Core.List.{List, [], _∷_, _++_}
 use native.Mathlib.Omega.{arith}
-use native.Mathlib.Nat.{add-zero, add-suc, add-assoc}
+use native.Mathlib.Nat.{add-zero, add-assoc}
 use lib.ListN.{length, getD, take, drop}
 use lib.Seq.{take-at, drop-at}
 use lib.Ieee.{Float, nan}
 use Rattle.complex.specs.declared.Complex.{Complex}
 use Rattle.complex.specs.Lists.{tabulate}
-use Rattle.complex.specs.ListLaws.{length-tabulate, tabulate-ext}
+use Rattle.complex.specs.ListLaws.{length-tabulate, tabulate-ext, tabulate-join}
 use Rattle.complex.specs.Pairs.{cget}
 use Rattle.refusal.specs.declared.Fault.{Fault}
 use Rattle.refusal.specs.declared.Fault.the-variants.{Clear, Met}
@@ -28,11 +28,6 @@ use Rattle.audio.specs.CarrierAudio.{audioFault, CarrierAudio}
 use Rattle.audio.specs.Windows.{signal, total, cuttings, AnyCutting, Lends, PhasesLend, Calls, one, next, CallsJoin}
 use Rattle.scatter.proofs.SumsLaws.{where-ext}
 use Rattle.audio.proofs.Accepted.{sound-of}
-
-tabulate-join : {A : Type 0} (f : ℕ → A) (a b : ℕ) → tabulate f (a + b) ≡ tabulate f a ++ tabulate (λ i. f (a + i)) b
-unfolding tabulate
-tabulate-join f a zero = rw add-zero (sym (append-nil (tabulate f a)))
-tabulate-join f a (suc b) = rw (add-suc, tabulate-join f a b) (append-assoc (tabulate f a) (tabulate (λ i. f (a + i)) b) (f (a + b) ∷ []))
 
 module _ (l : Layout) (frames : ℕ) (symbols : List Float) where
   -- waves that agree on the carriers

@@ -14,7 +14,7 @@ use Rattle.complex.specs.Lists.{filled}
 use Rattle.complex.specs.ListLaws.{filled-none, filled-length, filled-step, filled-at, filled-rest}
 use Rattle.complex.specs.Sums.{sumTo}
 use Rattle.complex.specs.Pairs.{cget}
-use Rattle.chi.specs.Dot.{dotTerm, dotAt}
+use Rattle.dot.specs.Dot.{dotTerm, dotAt}
 use Rattle.blocks.specs.Planes.{pget, Planes, addTo, Added, Zeros, Dots, planeTerm, CarrierFits, rowOf}
 
 -- ---- a loop that fills two planes: before it, what it reads, a turn of it, after it

@@ -8,7 +8,7 @@ use Rattle.complex.specs.declared.Complex.{Complex}
 use Rattle.complex.specs.Arithmetic.{cx, czero, cadd, cmul}
 use Rattle.complex.specs.Lists.{filled}
 use Rattle.complex.specs.Pairs.{cget}
-use Rattle.chi.specs.Dot.{dotAt}
+use Rattle.dot.specs.Dot.{dotAt}
 
 -- the number whose parts stand at place k of two planes
 abbrev pub pget : List Float → List Float → ℕ → Complex

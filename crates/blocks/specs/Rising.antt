@@ -13,10 +13,10 @@ use Rattle.level.specs.declared.Layout.{Layout}
 use Rattle.level.specs.Rows.{IsLayout}
 use Rattle.level.specs.Kept.{keptCells}
 use Rattle.dat.specs.Tables.{marked}
-use Rattle.dat.specs.Cells.{symbolsWhere, marksOf, cellsOf, thin}
-use Rattle.dat.specs.Counts.{cells-count}
+use Rattle.cells.specs.Cells.{symbolsWhere, marksOf, cellsOf, thin}
+use Rattle.cells.specs.Counts.{cells-count}
 use Rattle.dat.specs.Accepted.{Markers}
-use Rattle.dat.specs.SelectLaws.{thin-is, thin-in}
+use Rattle.cells.specs.SelectLaws.{thin-is, thin-in}
 use Rattle.chi.specs.declared.Sum.{Sum}
 use Rattle.chi.specs.declared.Sum.the-variants.{Pilot, Data}
 use Rattle.chi.specs.Table.{symbolsOf}

@@ -13,8 +13,8 @@ use Rattle.level.specs.declared.Layout.{Layout}
 use Rattle.level.specs.Lengths.{memoryLength}
 use Rattle.level.specs.Rows.{IsLayout}
 use Rattle.level.specs.SizedLaws.{sized}
-use Rattle.dat.specs.Cells.{Cell, cellAt, byCarrier}
-use Rattle.dat.specs.Counts.{byCarrier-count}
+use Rattle.cells.specs.Cells.{Cell, cellAt, byCarrier}
+use Rattle.cells.specs.Counts.{byCarrier-count}
 use Rattle.dat.specs.Accepted.{Markers}
 use Rattle.track.specs.Memory.{partLength}
 use Rattle.chi.specs.declared.Sum.{Sum}

@@ -6,7 +6,7 @@ ghost use Prim.Native.Nat.{_+_, _*_, _/_, _<_, _≤_};
 ghost use lib.ListN.{length};
 ghost use Rattle.complex.specs.Arithmetic.{cadd, cmul};
 ghost use Rattle.complex.specs.Pairs.{cget};
-ghost use Rattle.chi.specs.Dot.{dotTerm};
+ghost use Rattle.dot.specs.Dot.{dotTerm};
 ghost use Rattle.blocks.specs.Planes.{pget, Planes, Added, Zeros, Dots, planeTerm, CellsFit, CarrierFits};
 ghost use Rattle.blocks.specs.Planes.{RowsFit};
 use complex::Complex;

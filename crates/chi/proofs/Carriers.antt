@@ -12,27 +12,27 @@ use Rattle.complex.specs.Pairs.{parts}
 use Rattle.complex.specs.PairLaws.{parts-append, length-parts}
 use Rattle.level.specs.declared.Layout.{Layout}
 use Rattle.level.specs.Rows.{IsLayout}
-use Rattle.dat.specs.Cells.{Cell, cellAt, byCarrier}
-use Rattle.dat.specs.Counts.{byCarrier-count}
+use Rattle.cells.specs.Cells.{Cell, cellAt, byCarrier}
+use Rattle.cells.specs.Counts.{byCarrier-count}
 use Rattle.dat.specs.Accepted.{Markers}
 use Rattle.chi.specs.declared.Sum.{Sum}
 use Rattle.chi.specs.Table.{symbolsOf, perCarrier, cellsIn, placeOf, referenceFor, referenceIn, RowTabled, Tabled}
 use Rattle.chi.specs.Cells.{symbols-count}
 
 -- what the writer of a part leaves of a list whose first a entries were X and whose others were those of l₀
-part-next : {A : Type 0} (X ys m l₀ : List A) (a n : ℕ) → length X ≡ a → m ≡ X ++ drop a l₀
+pub part-next : {A : Type 0} (X ys m l₀ : List A) (a n : ℕ) → length X ≡ a → m ≡ X ++ drop a l₀
     → take a m ++ (ys ++ drop n (drop a m)) ≡ (X ++ ys) ++ drop (a + n) l₀
 part-next X ys m l₀ a n e h =
     rw (h, take-at X (drop a l₀) a e, drop-at X (drop a l₀) a e, drop-drop n a l₀) (sym (append-assoc X ys (drop (a + n) l₀)))
 
 -- a list that is written to its end
-part-all : {A : Type 0} (X m l₀ : List A) (a : ℕ) → length l₀ ≡ a → m ≡ X ++ drop a l₀ → m ≡ X
+pub part-all : {A : Type 0} (X m l₀ : List A) (a : ℕ) → length l₀ ≡ a → m ≡ X ++ drop a l₀ → m ≡ X
 part-all X m l₀ a e h =
     let b : length l₀ ≤ a = omega arith in
     h ∙ ap (λ (r : List _). X ++ r) (drop-of-length-le l₀ b) ∙ append-nil X
 
 -- an image of the cells, one carrier more
-map-next : {A : Type 0} (g : Cell → A) (f : ℕ → List ℕ) (c : ℕ) → map g (byCarrier f (c + 1)) ≡ map g (byCarrier f c) ++ map (λ s. g (cellAt c s)) (f c)
+pub map-next : {A : Type 0} (g : Cell → A) (f : ℕ → List ℕ) (c : ℕ) → map g (byCarrier f (c + 1)) ≡ map g (byCarrier f c) ++ map (λ s. g (cellAt c s)) (f c)
 unfolding byCarrier
 map-next g f c = rw add-one (map-append g (byCarrier f c) (map (cellAt c) (f c)) ∙ ap (λ (r : List _). map g (byCarrier f c) ++ r) (map-map g (cellAt c) (f c)))
 

@@ -15,7 +15,7 @@ use Rattle.level.specs.declared.Layout.{Layout}
 use Rattle.level.specs.Rows.{IsLayout}
 use Rattle.level.specs.Sized.{Sized}
 use Rattle.level.specs.SizedLaws.{sized, stagger-within}
-use Rattle.dat.specs.Cells.{cellAt}
+use Rattle.cells.specs.Cells.{cellAt}
 use Rattle.dat.specs.Accepted.{Markers}
 use Rattle.chi.specs.declared.Sum.{Sum}
 use Rattle.chi.specs.declared.Sum.the-variants.{Pilot, Data}

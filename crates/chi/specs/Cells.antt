@@ -18,10 +18,10 @@ use Rattle.level.specs.SizedLaws.{sized, stagger-within}
 use Rattle.level.specs.Kept.{keptCells}
 use Rattle.level.specs.KeptLaws.{kept-are}
 use Rattle.dat.specs.Tables.{marked}
-use Rattle.dat.specs.Cells.{symbolsWhere, Cell, cellAt, byCarrier, marksOf, cellsOf, thin}
-use Rattle.dat.specs.Counts.{marks-count, cells-count, byCarrier-count}
+use Rattle.cells.specs.Cells.{symbolsWhere, Cell, cellAt, byCarrier, marksOf, cellsOf, thin}
+use Rattle.cells.specs.Counts.{marks-count, cells-count, byCarrier-count}
 use Rattle.dat.specs.Accepted.{Markers}
-use Rattle.dat.specs.SelectLaws.{thin-is, thin-in}
+use Rattle.cells.specs.SelectLaws.{thin-is, thin-in}
 use Rattle.track.specs.Memory.{partLength}
 use Rattle.chi.specs.declared.Sum.{Sum}
 use Rattle.chi.specs.declared.Sum.the-variants.{Pilot, Data}
@@ -87,7 +87,7 @@ pub record InFrame (l : Layout) (x : Cell) : Type 0 where
   pub carrier : x .carrier < l .nc
   pub symbol : InRow (l .nsym) (x .symbol)
 
-where-in : (f : ℕ → Bool) (n nsym : ℕ) → n ≤ nsym - 1 → Each (InRow nsym) (symbolsWhere f n)
+pub where-in : (f : ℕ → Bool) (n nsym : ℕ) → n ≤ nsym - 1 → Each (InRow nsym) (symbolsWhere f n)
 unfolding symbolsWhere
 where-in f zero nsym h = tt
 where-in f (suc n) nsym h =

@@ -10,7 +10,7 @@ use Rattle.level.specs.declared.Layout.{Layout}
 use Rattle.level.specs.Layout.{stagger}
 use Rattle.level.specs.Rows.{IsLayout}
 use Rattle.level.specs.Kept.{keptCells}
-use Rattle.dat.specs.Cells.{Cell, cellAt, byCarrier, marksOf, cellsOf, thin, referenceOf, cellReferenceOf}
+use Rattle.cells.specs.Cells.{Cell, cellAt, byCarrier, marksOf, cellsOf, thin, referenceOf, cellReferenceOf}
 use Rattle.dat.specs.Accepted.{Markers, Phasors}
 use Rattle.track.specs.Memory.{partLength, stepPart, powerPart}
 use Rattle.chi.specs.declared.Sum.{Sum}

@@ -1,17 +1,15 @@
-// The tables and the sums of chi (01, "Search and hold"; rx/psk.rs): where each cell is read in the memory, and what
-// its value is multiplied by.
+// The tables of chi's two sums (01, "Search and hold"; rx/psk.rs): where each cell is read in the memory, and what its
+// value is multiplied by.
 ghost use mathlib.Core.Path.{_≡_};
 ghost use mathlib.Core.List.{map};
 ghost use Prim.Native.Nat.{_+_, _*_, _<_, _≤_};
 ghost use lib.ListN.{length};
-ghost use Rattle.complex.specs.Arithmetic.{cadd, cmul};
-ghost use Rattle.complex.specs.Pairs.{cget, parts};
+ghost use Rattle.complex.specs.Pairs.{parts};
 ghost use Rattle.level.specs.Rows.{IsLayout};
-ghost use Rattle.dat.specs.Cells.{cellAt};
+ghost use Rattle.cells.specs.Cells.{cellAt};
 ghost use Rattle.dat.specs.Accepted.{Markers, Phasors};
 ghost use Rattle.chi.specs.Table.{perCarrier, symbolsOf, partOf, placeOf, referenceFor, Row, RowTabled};
 ghost use Rattle.chi.specs.Table.{RowFits, Tabled, TableFits};
-ghost use Rattle.chi.specs.Dot.{dotAt, DotFits, ThreeAt, FourAt};
 use complex::Complex;
 use level::Layout;
 
@@ -38,8 +36,8 @@ fn symbols(l: Layout, markers: &[u16], sum: Sum, c: usize, out: &mut [usize])
     ensures { λ _. ⌜ now (out .exit) ≡ symbolsOf sum l (now (markers .entry)) c ⌝ }
 {
     match sum {
-        Sum::Pilot => dat::carrier_marks(l, markers, c, out),
-        Sum::Data => dat::carrier_kept(l, markers, c, out),
+        Sum::Pilot => cells::carrier_marks(l, markers, c, out),
+        Sum::Data => cells::carrier_kept(l, markers, c, out),
     }
 }
 
@@ -69,8 +67,8 @@ fn reference(l: Layout, phasors: &[f64], sum: Sum, c: usize, s: usize) -> Comple
     ensures { λ r. ⌜ r ≡ referenceFor sum l (now (phasors .entry)) c s ⌝ }
 {
     match sum {
-        Sum::Pilot => dat::reference(l, phasors, c, s),
-        Sum::Data => dat::cell_reference(l, phasors, c, s),
+        Sum::Pilot => cells::reference(l, phasors, c, s),
+        Sum::Data => cells::cell_reference(l, phasors, c, s),
     }
 }
 
@@ -147,81 +145,5 @@ pub fn table(
             &mut refs[2 * from..2 * from + 2 * n],
         );
         c += 1;
-    }
-}
-
-// acc and the product of q with the number at `at` of the memory.
-fn accumulate(acc: Complex, memory: &[f64], at: usize, q: Complex) -> Complex
-    requires { ⌜ 2 * at + 1 < length (now memory) ⌝ }
-    ensures { λ r. ⌜ r ≡ cadd acc (cmul (cget (now (memory .entry)) at) q) ⌝ }
-{
-    complex::add(acc, complex::mul(complex::get(memory, at), q))
-}
-
-// The sums at three positions, one behind the other.
-pub struct Three {
-    pub first: Complex,
-    pub second: Complex,
-    pub third: Complex,
-}
-
-// The sums over a table, `at`, `at` + 1 and `at` + 2 positions past the tracks' base: each cell is read once, and the
-// additions of three sums don't wait for each other.
-pub fn dot_three(memory: &[f64], offs: &[usize], refs: &[f64], at: usize) -> Three
-    requires { ⌜ DotFits (length (now memory)) (now offs) (length (now refs)) (at + 2) ⌝ }
-    ensures { λ r. ⌜ ThreeAt (dotAt (now (memory .entry)) (now (offs .entry)) (now (refs .entry))) at r ⌝ }
-{
-    let mut first = complex::zero();
-    let mut second = complex::zero();
-    let mut third = complex::zero();
-    let mut k = 0;
-    while k < offs.len() {
-        let place = offs[k] + at;
-        let q = complex::get(refs, k);
-        first = accumulate(first, memory, place, q);
-        second = accumulate(second, memory, place + 1, q);
-        third = accumulate(third, memory, place + 2, q);
-        k += 1;
-    }
-    Three {
-        first,
-        second,
-        third,
-    }
-}
-
-// The sums at four positions, one behind the other.
-pub struct Four {
-    pub first: Complex,
-    pub behind: Three,
-}
-
-// The sums over a table from `at` to `at` + 3 positions past the tracks' base, in one pass as `dot_three` makes it.
-pub fn dot_four(memory: &[f64], offs: &[usize], refs: &[f64], at: usize) -> Four
-    requires { ⌜ DotFits (length (now memory)) (now offs) (length (now refs)) (at + 3) ⌝ }
-    ensures { λ r. ⌜ FourAt (dotAt (now (memory .entry)) (now (offs .entry)) (now (refs .entry))) at r ⌝ }
-{
-    let mut sum0 = complex::zero();
-    let mut sum1 = complex::zero();
-    let mut sum2 = complex::zero();
-    let mut sum3 = complex::zero();
-    let mut k = 0;
-    while k < offs.len() {
-        let place = offs[k] + at;
-        let q = complex::get(refs, k);
-        sum0 = accumulate(sum0, memory, place, q);
-        sum1 = accumulate(sum1, memory, place + 1, q);
-        sum2 = accumulate(sum2, memory, place + 2, q);
-        sum3 = accumulate(sum3, memory, place + 3, q);
-        k += 1;
-    }
-    let behind = Three {
-        first: sum1,
-        second: sum2,
-        third: sum3,
-    };
-    Four {
-        first: sum0,
-        behind,
     }
 }

@@ -4,7 +4,7 @@ use mathlib.Core.Path.{_≡_, refl, sym, ap, _∙_}
 use mathlib.Core.List.{List, [], _∷_, _++_, map, append-assoc, append-nil}
 use mathlib.Core.Logic.{⊎-elim}
 use native.Mathlib.Omega.{arith}
-use native.Mathlib.Nat.{eq-or-lt-of-le, le-of-suc-le-suc}
+use native.Mathlib.Nat.{add-zero, add-suc, eq-or-lt-of-le, le-of-suc-le-suc}
 use native.Mathlib.Numerals.{add-one}
 use lib.ListN.{length, getD, drop, set, length-append, length-drop, List·getD-append}
 use lib.Seq.{drop-cons, drop-length, set-at, getD-at, getD-append-add, getD-drop, ext-getD}
@@ -40,6 +40,13 @@ tabulate-getD l d =
     ext-getD d (tabulate (λ (k : ℕ). getD l k d) (length l)) l (length-tabulate (λ (k : ℕ). getD l k d) (length l))
     (λ k h. getD-tabulate (λ (k : ℕ). getD l k d) (length l) k d
     (rw (length-tabulate (λ (k : ℕ). getD l k d) (length l)) at h))
+
+-- a list in two pieces
+pub tabulate-join : {A : Type 0} (f : ℕ → A) (a b : ℕ) → tabulate f (a + b) ≡ tabulate f a ++ tabulate (λ k. f (a + k)) b
+unfolding tabulate
+tabulate-join f a zero = rw add-zero (sym (append-nil (tabulate f a)))
+tabulate-join f a (suc b) =
+    rw (add-suc, tabulate-join f a b) (append-assoc (tabulate f a) (tabulate (λ k. f (a + k)) b) (f (a + b) ∷ []))
 
 -- ---- a loop that fills a slice: before it, a turn of it, after it
 pub filled-none {ℓ} : {A : Type ℓ} (f : ℕ → A) (l : List A) → l ≡ filled f 0 l

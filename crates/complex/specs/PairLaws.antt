@@ -5,7 +5,7 @@ use mathlib.Core.List.{List, [], _∷_, _++_, append-assoc}
 use native.Mathlib.Omega.{arith}
 use native.Mathlib.Numerals.{add-one}
 use lib.ListN.{length, getD, take, drop, set, length-append, length-drop, List·getD-append}
-use lib.Seq.{drop-nil, drop-cons, set-at, take-at, append-snoc}
+use lib.Seq.{drop-nil, drop-cons, set-at, append-snoc}
 use lib.Ieee.{Float, nan}
 use Rattle.complex.specs.declared.Complex.{Complex}
 use Rattle.complex.specs.Arithmetic.{cx}
@@ -120,13 +120,6 @@ cfilled-at f n k l h =
     let len : length a ≡ 2 * n = length-parts (tabulate f n) ∙ ap (λ (k : ℕ). 2 * k) (length-tabulate f n) in
     cget-front a (drop (2 * n) l) k (omega arith) ∙ sym (getD-pairs a k (omega arith)) ∙ rw pairs-parts
     (getD-tabulate f n k (cx nan nan) h)
-
-pub cfilled-pairs : (f : ℕ → Complex) (n : ℕ) (l : List Float) → pairs (take (2 * n) (cfilled f n l)) ≡ tabulate f n
-unfolding cfilled
-cfilled-pairs f n l =
-    let len : length (parts (tabulate f n)) ≡ 2 * n =
-    length-parts (tabulate f n) ∙ ap (λ (k : ℕ). 2 * k) (length-tabulate f n) in
-    rw (take-at (parts (tabulate f n)) (drop (2 * n) l) (2 * n) len) (pairs-parts (tabulate f n))
 
 pub complexes-length : (xs : List Float) (off n : ℕ) → length (complexes xs off n) ≡ n
 unfolding complexes

@@ -55,17 +55,6 @@ pub rows-none {ℓ} : {A : Type ℓ} (f : ℕ → ℕ → A) (width : ℕ) (l : 
 unfolding rowsFilled rows
 rows-none f width l = rw (zero-mul width) refl
 
-pub rows-filled-length {ℓ} : {A : Type ℓ} (f : ℕ → ℕ → A) (width n : ℕ) (l : List A) → n * width ≤ length l
-    → length (rowsFilled f width n l) ≡ length l
-unfolding rowsFilled
-rows-filled-length f width n l h =
-    omega (
-      arith,
-      length-append (rows f width n) (drop (n * width) l),
-      length-rows f width n,
-      length-drop (n * width) l,
-    )
-
 -- row n written where it stands, by a part that was lent
 pub rows-turn {ℓ} : {A : Type ℓ} (f : ℕ → ℕ → A) (width n k : ℕ) (l m row : List A) → m ≡ rowsFilled f width n l
     → row ≡ tabulate (f n) width → k ≡ width

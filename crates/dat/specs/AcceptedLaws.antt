@@ -1,23 +1,22 @@
 -- What conditions 3 to 7 leave: lengths, places and flags. Assumes nothing.
 use Prim.Native.Nat.{ℕ, suc, _+_, _-_, _*_, _<_, _≤_}
 use mathlib.Core.Path.{_≡_, refl}
-use mathlib.Core.Bool.{true, false, cond}
+use mathlib.Core.Bool.{true, false, _||_, cond}
 use mathlib.Core.List.{List}
 use native.Mathlib.Nat.{le-trans, mul-le-mul, mul-le-mul-right, mul-add, suc-mul}
 use native.Mathlib.Omega.{arith}
-use lib.Dec.{eqb}
+use lib.Dec.{eqb, ltb}
 use lib.ListN.{length}
 use lib.Ieee.{Float}
-use borrow.Author.Tests.{eqb-true, not-false, eq-eqb, ne-eqb}
+use borrow.Author.Tests.{eqb-true, not-false, eq-eqb, ne-eqb, ltb-false}
 use Rattle.refusal.specs.declared.Fault.the-variants.{Clear}
 use Rattle.refusal.specs.Any.{any}
 use Rattle.refusal.specs.AnyLaws.{any-below, any-false}
-use Rattle.refusal.specs.Clear.{clear-first, clear-both}
+use Rattle.refusal.specs.Clear.{neither, clear-first, clear-both}
 use Rattle.level.specs.declared.Layout.{Layout}
 use Rattle.level.specs.Sized.{Sized}
-use Rattle.dat.specs.Tables.{value, flag, marked, wrongLength, wrongValue, badFlag, wrongFlag, wrongCount}
+use Rattle.dat.specs.Tables.{value, flag, marked, wrongLength, badValue, wrongValue, badFlag, wrongFlag, wrongCount}
 use Rattle.dat.specs.Tables.{wrongSize, markerFault, phasorFault, tableFault}
-use Rattle.dat.specs.Counts.{good-value}
 use Rattle.dat.specs.Accepted.{Markers, Phasors, InTable}
 
 -- ---- from the fault that is found to these records
@@ -42,6 +41,23 @@ unfolding tableFault
 tables-of l table phasors z h =
     let s = clear-both (markerFault l table) (phasorFault l phasors) h in
     (markers-of l table z (s .0), phasors-of l phasors z (s .1))
+
+-- ---- a value that condition 4 accepts
+pub record GoodValue (l : Layout) (table : List ℕ) (c k : ℕ) : Type 0 where
+  pub from : 5 ≤ value l table c k
+  pub to : value l table c k ≤ l .spf - 4
+  pub once : any (λ j. eqb (value l table c j) (value l table c k)) k ≡ false
+
+pub good-value : (l : Layout) (table : List ℕ) (c k : ℕ) → wrongValue l table ≡ false → c < l .nc → k < l .markers
+    → GoodValue l table c k
+unfolding wrongValue badValue
+good-value l table c k h C K =
+    let b = any-below (badValue l table c) (l .markers) k
+    (any-below (λ c. any (badValue l table c) (l .markers)) (l .nc) c h C) K in
+    let s = neither (ltb (value l table c k) 5 || ltb (l .spf - 4) (value l table c k))
+    (any (λ j. eqb (value l table c j) (value l table c k)) k) b in
+    let t = neither (ltb (value l table c k) 5) (ltb (l .spf - 4) (value l table c k)) (s .0) in
+    record { from = ltb-false _ _ (t .0); to = ltb-false _ _ (t .1); once = s .1 }
 
 -- ---- lengths, and the places that a carrier's entries have
 pub in-table : (l : Layout) (table : List ℕ) (c : ℕ) → Markers l table → c < l .nc → InTable l table c

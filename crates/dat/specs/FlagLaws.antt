@@ -10,12 +10,11 @@ use lib.ListN.{length, getD, set, replicate, length-set, length-replicate, getD-
 use lib.Seq.{ext-getD, getD-set-same, getD-set-other}
 use borrow.Author.Tests.{eqb-true, eqb-false}
 use Rattle.refusal.specs.Any.{any}
-use Rattle.complex.specs.Lists.{tabulate}
 use Rattle.complex.specs.ListLaws.{length-tabulate, getD-tabulate}
 use Rattle.level.specs.declared.Layout.{Layout}
 use Rattle.level.specs.Sized.{Sized}
 use Rattle.dat.specs.Tables.{value, flag, marked, wrongValue, badFlag}
-use Rattle.dat.specs.Counts.{good-value}
+use Rattle.dat.specs.AcceptedLaws.{good-value}
 use Rattle.dat.specs.Flags.{ones, flagsSet}
 
 pub ones-length : (f : ℕ → Bool) (n : ℕ) → length (ones f n) ≡ n

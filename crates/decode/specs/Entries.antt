@@ -1,10 +1,10 @@
 -- Entries of what is packed by carrier, in lent scratch and as complex numbers. Assumes nothing.
-use Prim.Native.Nat.{ℕ, zero, suc, _+_, _-_, _*_, _≤_, _<_}
+use Prim.Native.Nat.{ℕ, _+_, _-_, _*_, _≤_, _<_}
 use mathlib.Core.Path.{_≡_, sym, ap, ap₂, _∙_}
 use mathlib.Core.Bool.{cond}
-use mathlib.Core.List.{List, [], _∷_, _++_, append-assoc, append-nil}
+use mathlib.Core.List.{List, [], _++_}
 use native.Mathlib.Omega.{arith}
-use native.Mathlib.Nat.{add-zero, add-suc, mul-le-mul-left, lt-of-lt-of-le}
+use native.Mathlib.Nat.{mul-le-mul-left, lt-of-lt-of-le}
 use lib.Dec.{ltb}
 use lib.ListN.{length, drop}
 use lib.Seq.{drop-at}
@@ -13,7 +13,7 @@ use borrow.Author.Tests.{lt-ltb, le-ltb}
 use Rattle.complex.specs.declared.Complex.{Complex}
 use Rattle.complex.specs.Arithmetic.{czero}
 use Rattle.complex.specs.Lists.{tabulate}
-use Rattle.complex.specs.ListLaws.{length-tabulate, tabulate-ext}
+use Rattle.complex.specs.ListLaws.{length-tabulate, tabulate-ext, tabulate-join}
 use Rattle.complex.specs.SumLaws.{fsum-ext}
 use Rattle.complex.specs.Pairs.{cget, cfilled, parts}
 use Rattle.complex.specs.PairLaws.{length-parts, parts-append, parts-at}
@@ -34,15 +34,6 @@ pub soft-is : (l : Layout) (table : List ℕ) (z : List Complex) (i b : ℕ) →
 unfolding softAt softIn receivedIn
 soft-is l table z i b B = rw (quotient (l .bps) i b B, remainder (l .bps) i b B)
 
--- ---- a list in two pieces
-tabulate-split : {A : Type 0} (f : ℕ → A) (a b : ℕ) → tabulate f (a + b) ≡ tabulate f a ++ tabulate (λ k. f (a + k)) b
-unfolding tabulate
-tabulate-split f a zero = rw (add-zero a) (sym (append-nil (tabulate f a)))
-tabulate-split {A} f a (suc b) =
-    ap (tabulate f) (add-suc a b)
-    ∙ ap (λ (x : List A). x ++ (f (a + b) ∷ [])) (tabulate-split f a b)
-    ∙ append-assoc (tabulate f a) (tabulate (λ k. f (a + k)) b) (f (a + b) ∷ [])
-
 -- the first n of N numbers written anew
 module _ (f h g : ℕ → Complex) (n m N : ℕ) (all : n + m ≡ N)
     (first : (k : ℕ) → k < n → g k ≡ f k) (rest : (k : ℕ) → g (n + k) ≡ h (n + k)) where
@@ -55,13 +46,13 @@ module _ (f h g : ℕ → Complex) (n m N : ℕ) (all : n + m ≡ N)
       let b = tabulate (λ k. h (n + k)) m in
       let len : length (parts a) ≡ 2 * n = length-parts a ∙ ap (λ (x : ℕ). 2 * x) (length-tabulate h n) in
       let u : drop (2 * n) (parts (tabulate h (n + m))) ≡ parts b =
-      ap (λ (x : List Complex). drop (2 * n) (parts x)) (tabulate-split h n m)
+      ap (λ (x : List Complex). drop (2 * n) (parts x)) (tabulate-join h n m)
       ∙ ap (drop (2 * n)) (parts-append a b) ∙ drop-at (parts a) (parts b) (2 * n) len in
       ap (λ (x : List Float). parts (tabulate f n) ++ x) u
       ∙ sym (parts-append (tabulate f n) b)
       ∙ ap parts
       (sym
-      (tabulate-split g n m
+      (tabulate-join g n m
       ∙ ap₂ (λ (x y : List Complex). x ++ y) (tabulate-ext g f n first)
       (tabulate-ext (λ k. g (n + k)) (λ k. h (n + k)) m (λ k K. rest k)))))
 

@@ -8,7 +8,7 @@ use Rattle.complex.specs.Sums.{fsumTo}
 use Rattle.laws.specs.Floats.{maxf}
 use Rattle.level.specs.declared.Layout.{Layout}
 use Rattle.level.specs.Kept.{whole}
-use Rattle.dat.specs.Cells.{cellAt}
+use Rattle.cells.specs.Cells.{cellAt}
 use Rattle.demap.specs.SignLaw.{milli}
 use Rattle.eq.specs.Noise.{deviationOf}
 use Rattle.decode.specs.Steps.{markCells, stepPlace, divided}

@@ -2,11 +2,11 @@
 use Prim.Native.Nat.{ℕ, _+_, _-_, _*_, _/_, _%_, _≤_, _<_}
 use mathlib.Core.Path.{_≡_, sym, ap, ap₂, _∙_}
 use mathlib.Core.Bool.{Bool, true, false, cond}
-use mathlib.Core.List.{List, map}
+use mathlib.Core.List.{List}
 use native.Mathlib.Omega.{arith}
 use native.Mathlib.Nat.{mul-le-mul-left, mul-le-mul-right, mod-lt, div-lt-iff-lt-mul}
 use lib.Dec.{ltb}
-use lib.ListN.{length, getD, take, length-map, length-take}
+use lib.ListN.{length, getD, length-map}
 use lib.Ieee.{Float, binary64, div}
 use borrow.Author.Tests.{ltb-true}
 use Rattle.complex.specs.declared.Complex.{Complex}
@@ -27,10 +27,9 @@ use Rattle.level.specs.Lengths.{cells}
 use Rattle.level.specs.Sized.{Sized}
 use Rattle.level.specs.SizedLaws.{sized}
 use Rattle.dat.specs.Tables.{value}
-use Rattle.dat.specs.Cells.{Cell, cellAt, byCarrier}
-use Rattle.dat.specs.Counts.{good-value}
+use Rattle.cells.specs.Cells.{Cell, cellAt}
+use Rattle.dat.specs.AcceptedLaws.{good-value, row-in}
 use Rattle.dat.specs.Accepted.{Markers}
-use Rattle.dat.specs.AcceptedLaws.{row-in}
 use Rattle.demap.specs.Soft.{softBit}
 use Rattle.demap.specs.SignLaw.{milli}
 use Rattle.snr.specs.Median.{medianOf}
@@ -47,7 +46,7 @@ use Rattle.soft.specs.SoftCells as soft
 use Rattle.decode.specs.Steps.{symbolIn, markCells, coherentAt, coherence, coherenceTurn}
 use Rattle.decode.specs.Steps.{stepFrom, stepCount, stepPlace, undivided, scratchOf}
 use Rattle.decode.specs.Noise.{varianceIn}
-use Rattle.decode.specs.SoftBits.{dataCells, cellOf, softIn}
+use Rattle.decode.specs.SoftBits.{softIn}
 use Rattle.decode.specs.Median.{productOf, markerProduct, phaseMedian}
 
 -- scratch of `room` f64 for a frame's symbols, with an accepted marker table
@@ -62,16 +61,6 @@ some-marks l i =
     let z = sized l i in
     let b : 1 * l .markers ≤ l .nc * l .markers = mul-le-mul-right (l .markers) (omega (arith, z .nc-least)) in
     omega (arith, z .markers-least)
-
-pub cells-room : (l : Layout) → IsLayout l → l .nc * (l .nsym - 1 - l .markers) ≡ l .nc * cells l
-cells-room l i =
-    let z = sized l i in
-    let e : l .nsym - 1 - l .markers ≡ cells l = omega (arith, z .cells-are) in
-    ap (λ (k : ℕ). l .nc * k) e
-
--- the front of an array that is long enough
-pub front : (k m : ℕ) (xs : List ℕ) → k ≡ m → k ≤ length xs → length (take (k - 0) xs) ≡ m
-front k m xs e h = simp length-take (omega arith)
 
 pub soft-room : (l : Layout) (table : List ℕ) (i : IsLayout l) (m : Markers l table) (ps : List ℕ) (n : ℕ)
     → ps ≡ placesOf kind.Cell l table (l .nsym - 1) 1 → n ≡ l .n → n ≡ length ps * l .bps

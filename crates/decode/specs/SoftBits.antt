@@ -7,7 +7,7 @@ use Rattle.complex.specs.declared.Complex.{Complex}
 use Rattle.complex.specs.Lists.{tabulate}
 use Rattle.constellation.specs.Alphabet.{alphabet}
 use Rattle.level.specs.declared.Layout.{Layout}
-use Rattle.dat.specs.Cells.{Cell, cellAt, byCarrier, cellsOf}
+use Rattle.cells.specs.Cells.{Cell, cellAt, byCarrier, cellsOf}
 use Rattle.demap.specs.Soft.{softBit}
 use Rattle.decode.specs.Steps.{stepPlace, divided, receivedIn}
 use Rattle.decode.specs.Noise.{varianceOf}

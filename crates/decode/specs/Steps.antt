@@ -13,7 +13,7 @@ use Rattle.complex.specs.Lists.{tabulate}
 use Rattle.complex.specs.Pairs.{parts}
 use Rattle.root.specs.Unit.{unitOf}
 use Rattle.level.specs.declared.Layout.{Layout}
-use Rattle.dat.specs.Cells.{Cell, cellAt, byCarrier, marksOf}
+use Rattle.cells.specs.Cells.{Cell, cellAt, byCarrier, marksOf}
 use Rattle.demap.specs.Gain.{meanNorm}
 
 -- symbol k of carrier c, of symbols z packed by carrier

@@ -15,7 +15,7 @@ use Rattle.complex.specs.Arithmetic.{normSqr}
 use Rattle.constellation.specs.Alphabet.{alphabet}
 use Rattle.constellation.specs.Label.{labelBit}
 use Rattle.constellation.specs.PointLaws.{alphabet-length}
-use Rattle.laws.specs.Order.{clash, lt-asym, lt-trans, lt-number, not-lt-le}
+use Rattle.laws.specs.Order.{clash, lt-asym, lt-irreflexive, lt-trans, lt-number, not-lt-le}
 use Rattle.laws.specs.Floats.{Signed}
 use Rattle.laws.specs.Sign.{round-neg}
 use Rattle.laws.specs.Rounding.{le-antisym}
@@ -25,7 +25,7 @@ use Rattle.demap.specs.Nearest.{distSqr, pointAt, closest, nearestOf, ne
 use Rattle.demap.specs.NearestLaws.{dist-fits}
 use Rattle.demap.specs.Candidates.{candidate}
 use Rattle.demap.specs.Soft.{leastOf, alternative, softOf}
-use Rattle.demap.specs.SoftLaws.{lt-irreflexive, least-again}
+use Rattle.demap.specs.SoftLaws.{least-again}
 use Rattle.demap.specs.PskCandidates.{one-bit-candidate, later-candidate, first-high, first-low}
 use Rattle.demap.specs.PskLaws.{psk-label-below}
 use Rattle.demap.specs.Apart.{lesserOf, apartOf}

@@ -19,7 +19,7 @@ use lib.Ieee.Back.{round-whole}
 use lib.Ieee.Scale.{finite}
 use lib.Ieee.Positive.{num, den, den-pos, through, positive}
 use Rattle.complex.specs.declared.Complex.{Complex}
-use Rattle.complex.specs.Arithmetic.{fzero, cunscale, normSqr}
+use Rattle.complex.specs.Arithmetic.{cunscale, normSqr}
 use Rattle.laws.specs.Sign.{signed-of, round-signed}
 use Rattle.laws.specs.Floats.{Signed, signOf, plain, Within}
 use Rattle.laws.specs.Plain.{plain-finite, plain-signed, finite-plain, positive-plain, positive-num, value-plain}
@@ -31,7 +31,7 @@ use Rattle.root.specs.Root.{normOf, sqrtOf}
 use Rattle.root.specs.Squares.{root-le-root}
 use Rattle.root.specs.RootFacts.{sqrt-zero, sqrt-square}
 use Rattle.root.specs.NormLaws.{norm-sqr-finite, norm-sqr-fits, norm-finite, norm-plain, norm-fits}
-use Rattle.demap.specs.Gain.{sumOfNorms, meanNorm}
+use Rattle.demap.specs.Gain.{sumOfNorms, meanNorm, MeanEps}
 use Rattle.demap.specs.SignLaw.{PartsWithin}
 
 -- ---- numbers
@@ -364,9 +364,8 @@ mean-fits : (u : ℕ → Complex) (n : ℕ) → T (fits binary64 (meanNorm u n))
 unfolding meanNorm
 mean-fits u n = div-fits binary64 (sumOfNorms u n) (ofInt binary64 (pos n))
 
-pub mean-eps : (u : ℕ → Complex) (n : ℕ) → 0 < n → n ≤ 2 ^ prec binary64 → add binary64 (meanNorm u n) fzero
-    ≡ meanNorm u n
-unfolding ofBits
+pub mean-eps : MeanEps
+unfolding ofBits MeanEps
 mean-eps u n N M = go (meanNorm u n) (mean-fits u n) (finite-mean u n N M)
   where
     go : (m : Float) → T (fits binary64 m) → (T (finite m) → T (plain m)) → add binary64 m (fin false 0 (pos 0)) ≡ m

@@ -7,12 +7,13 @@ use native.Mathlib.Nat.{le-refl, eq-or-lt-of-le, le-of-suc-le-suc, not-suc-le-ze
 use native.Mathlib.Numerals.{add-one}
 use native.Mathlib.Omega.{arith}
 use lib.Dec.{T}
-use lib.Ieee.{Float, nan, inf, fin, binary64, sub, lt, le, isNan, fits}
+use lib.Ieee.{Float, nan, inf, fin, binary64, sub, lt, le, fits}
+use lib.Ieee.Bits.{is-true}
 use lib.Ieee.Positive.{num, den}
 use Rattle.complex.specs.declared.Complex.{Complex}
 use Rattle.complex.specs.Arithmetic.{cx}
 use Rattle.laws.specs.Order.{lt-le, not-lt-le, lt-le-trans}
-use Rattle.laws.specs.Plain.{cross-le}
+use Rattle.laws.specs.Plain.{plain-number, cross-le}
 use Rattle.laws.specs.Floats.{plain}
 use Rattle.laws.specs.Size.{sub-within}
 use Rattle.root.specs.NormLaws.{norm-sqr-plain, norm-sqr-fits}
@@ -58,16 +59,6 @@ pub record First (d : ℕ → Float) (n : ℕ) (r : Closest) : Type 0 where
   pub distance-at : r .distance ≡ d (r .label)
   pub least : (k : ℕ) → k < n → le (r .distance) (d k) ≡ true
   pub first : (k : ℕ) → k < r .label → lt (r .distance) (d k) ≡ true
-
-is-true : (b : Bool) → T b → b ≡ true
-is-true true t = refl
-is-true false t = absurd t
-
-pub plain-number : (x : Float) → T (plain x) → isNan x ≡ false
-unfolding isNan
-plain-number nan p = absurd p
-plain-number (inf s) p = refl
-plain-number (fin s m e) p = refl
 
 pub plain-below-inf : (x : Float) → T (plain x) → lt x (inf false) ≡ true
 unfolding lt

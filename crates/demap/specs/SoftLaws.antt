@@ -12,7 +12,7 @@ use lib.Ieee.Fits.{mul-fits, neg-fits}
 use Rattle.complex.specs.declared.Complex.{Complex}
 use Rattle.constellation.specs.Alphabet.{fone}
 use Rattle.constellation.specs.Label.{labelBit}
-use Rattle.laws.specs.Order.{lt-asym}
+use Rattle.laws.specs.Order.{lt-irreflexive}
 use Rattle.laws.specs.Sign.{neg-signed}
 use Rattle.laws.specs.Floats.{Signed, plain, maxf}
 use Rattle.laws.specs.SignBit.{sign-bit-of}
@@ -42,14 +42,6 @@ pub least-left : (d : ℕ → Float) (n : ℕ) (least e : Float) → least ≡ l
 least-left d n least e h g t =
     let u : lt (d n) (leastOf d n) ≡ false = cc in
     rw (least-step d n, u) h
-
--- no float is below itself
-pub lt-irreflexive : (x : Float) → lt x x ≡ false
-lt-irreflexive x = go (lt x x) refl
-  where
-    go : (t : Bool) → lt x x ≡ t → lt x x ≡ false
-    go true h = lt-asym x x h
-    go false h = h
 
 -- a distance that is repeated leaves the least as it is
 pub least-again : (d : ℕ → Float) (n : ℕ) → d (suc n) ≡ d n → leastOf d (suc (suc n)) ≡ leastOf d (suc n)

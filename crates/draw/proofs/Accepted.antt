@@ -24,10 +24,10 @@ use Rattle.dat.specs.Tables.{value, flag, marked, wrongLength, badValue, wrongV
 use Rattle.dat.specs.AcceptedLaws.{length-right}
 use Rattle.rnd.specs.Generator.{advance}
 use Rattle.rnd.specs.BelowLaws.{draw-below}
-use Rattle.draw.specs.Draw.{Values, has, nextValue, drawOnce, missing, rowAfter, drawnRow, nextRow, drawnRows, flagOf}
-use Rattle.draw.specs.Draw.{flagRows, tableOf}
+use Rattle.marker_rows.specs.Draw.{Values, has, nextValue, drawOnce, missing, rowAfter, drawnRow, nextRow, drawnRows, flagOf}
+use Rattle.marker_rows.specs.Draw.{flagRows, tableOf}
 use Rattle.draw.specs.Call.{Made, drawnTable, MadeAccepted}
-use Rattle.draw.proofs.RowLaws.{at, room}
+use Rattle.marker_rows.proofs.RowLaws.{at, room}
 
 never {ℓ} : {A : Type 0} {X : Type ℓ} {k : ℕ} {a : A} → refused k ≡ answered a → X
 never e = absurd (let z : _≡_ {A = ℕ} 0 1 = cc in omega arith)

@@ -19,10 +19,10 @@ use Rattle.refusal.specs.Outcome.{Outcome, refused, answered, judged}
 use Rattle.level.specs.declared.Layout.{Layout}
 use Rattle.dat.specs.Tables.{wrongLength}
 use Rattle.dat.specs.AcceptedLaws.{length-is}
-use Rattle.draw.specs.declared.Rows.{Rows}
-use Rattle.draw.specs.Draw.{drawnRows, flagRows, tableOf, rowsOutcome}
+use Rattle.marker_rows.specs.declared.Rows.{Rows}
+use Rattle.marker_rows.specs.Draw.{drawnRows, flagRows, tableOf, rowsOutcome}
 use Rattle.draw.specs.Call.{Made, wrongDraw, drawFault, drawnTable, madeBy, Drawing, Finished}
-use Rattle.draw.proofs.RowLaws.{at}
+use Rattle.marker_rows.proofs.RowLaws.{at}
 
 pub drawing-refused : (made : Outcome Made) (state : ℕ) (out : List ℕ) (r : Refusal) → made ≡ refused (numberOf r)
     → Drawing made state out (Refused r) state out

@@ -12,9 +12,9 @@ use Rattle.refusal.specs.Outcome.{Outcome, answered, andThen, done, after, outc
 use Rattle.level.specs.declared.Layout.{Layout}
 use Rattle.level.specs.Layout.{chosen}
 use Rattle.dat.specs.Tables.{wrongLength, MarkersAccepted}
-use Rattle.draw.specs.declared.Rows.{Rows}
-use Rattle.draw.specs.declared.Rows.the-variants.{Drawn, Spent}
-use Rattle.draw.specs.Draw.{drawnRows, tableOf}
+use Rattle.marker_rows.specs.declared.Rows.{Rows}
+use Rattle.marker_rows.specs.declared.Rows.the-variants.{Drawn, Spent}
+use Rattle.marker_rows.specs.Draw.{drawnRows, tableOf}
 
 -- 29: "a state above 24 bits or a draw limit outside its range", which is "1 to 4,096 for each row"
 unfoldable pub wrongDraw : ℕ → ℕ → Bool

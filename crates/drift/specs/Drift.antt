@@ -9,12 +9,7 @@ use Rattle.complex.specs.Pairs.{cget}
 use Rattle.level.specs.declared.Layout.{Layout}
 use Rattle.level.specs.Layout.{stagger, pulseOf}
 use Rattle.taps.specs.Taps.{receiverTap}
-use Rattle.search.specs.Search.{reach}
-
--- the entries of a carrier's drift row: "positions t − delay − 1 up to, not including,
--- t + greatest stagger + 32 × (nsym − 1) + delay + 1"
-abbrev pub driftLength : Layout → ℕ
-driftLength l = reach l + 2 * l .delay + 2
+use Rattle.positions.specs.Positions.{driftLength}
 
 -- a symbol before its phasor: the samples turned by the drift rows
 -- ("`rot` with drift, and cosine and sine of carrier phases: lent rows.") and filtered: entry i of a row is for sample

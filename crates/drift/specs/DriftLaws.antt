@@ -19,12 +19,13 @@ use Rattle.level.specs.Lengths.{memoryLength}
 use Rattle.level.specs.Rows.{IsLayout}
 use Rattle.level.specs.SizedLaws.{sized, stagger-within}
 use Rattle.dat.specs.AcceptedLaws.{row-in}
-use Rattle.dat.specs.Cells.{phasor}
+use Rattle.cells.specs.Cells.{phasor}
 use Rattle.track.specs.declared.Span.{Span}
 use Rattle.track.specs.Memory.{partLength, samplesPart}
 use Rattle.track.specs.Values.{span-within, span-before, span-past}
 use Rattle.fir.specs.Fir.{firAt, IsTaps}
-use Rattle.drift.specs.Drift.{driftLength, driftSymbol}
+use Rattle.drift.specs.Drift.{driftSymbol}
+use Rattle.positions.specs.Positions.{driftLength}
 use Rattle.turned.specs.Turned.{turnedBy, partSymbol}
 use Rattle.drift.specs.Rows.{samplesIn, entryOf, driftFrom, SamplesFit}
 

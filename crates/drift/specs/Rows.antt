@@ -10,11 +10,12 @@ use Rattle.level.specs.declared.Layout.{Layout}
 use Rattle.level.specs.Layout.{stagger}
 use Rattle.level.specs.Lengths.{memoryLength}
 use Rattle.level.specs.Rows.{IsLayout}
-use Rattle.dat.specs.Cells.{phasor}
+use Rattle.cells.specs.Cells.{phasor}
 use Rattle.track.specs.declared.Span.{Span}
 use Rattle.track.specs.Memory.{samplesPart, trackIn}
 use Rattle.track.specs.Track.{valueAt}
-use Rattle.drift.specs.Drift.{driftLength, driftSymbol}
+use Rattle.drift.specs.Drift.{driftSymbol}
+use Rattle.positions.specs.Positions.{driftLength}
 
 -- the samples of a track in a memory
 abbrev pub samplesIn : Layout → List Float → Span → ℕ → Complex

@@ -9,19 +9,10 @@ ghost use Rattle.dat.specs.Accepted.{Phasors};
 ghost use Rattle.fir.specs.Fir.{IsTaps};
 ghost use Rattle.complex.specs.Stored.{storedFrom};
 ghost use Rattle.turned.specs.Turned.{turnedBy};
-ghost use Rattle.drift.specs.Drift.{driftLength};
 ghost use Rattle.drift.specs.Rows.{samplesIn, driftIth, driftFrom, SamplesFit, DriftRows, TurnFits, RowPart};
 use complex::Complex;
 use level::Layout;
 use track::Span;
-
-// The entries of a carrier's drift row.
-pub fn drift_length(l: Layout) -> usize
-    requires { ⌜ Sized l ⌝ }
-    ensures { λ r. ⌜ r ≡ driftLength l ⌝ }
-{
-    l.max_stagger as usize + 32 * (l.nsym - 1) + 2 * l.delay as usize + 2
-}
 
 // The sample of number n, or zero outside of the track.
 fn sample(l: Layout, memory: &[f64], samples: Span, n: u64) -> Complex
@@ -130,7 +121,7 @@ fn turned_symbols(
         memory,
         samples,
         drift,
-        c * drift_length(l) + entry,
+        c * positions::drift_length(l) + entry,
         first,
         count,
         v,

@@ -5,9 +5,8 @@ ghost use Prim.Native.Nat.{_+_, _*_, _<_, _≤_};
 ghost use lib.ListN.{length};
 ghost use Rattle.complex.specs.Arithmetic.{czero, cunscale};
 ghost use Rattle.complex.specs.Pairs.{cget, cfilled};
-ghost use Rattle.eq.specs.Steps.{coherentOf, coherenceOf, turnOf, steppedOf, Preceded, Packed};
+ghost use Rattle.eq.specs.Steps.{coherentOf, coherenceOf, turnOf, steppedOf, Preceded, Packed, stepsFrom, Row};
 ghost use Rattle.complex.specs.Stored.{storedFrom};
-ghost use Rattle.eq.specs.Fill.{stepsFrom, Row};
 ghost use Rattle.eq.specs.Noise.{deviationOf, noiseOf, Inside};
 ghost use Rattle.demap.specs.Gain.{meanNorm};
 use complex::Complex;
@@ -18,7 +17,7 @@ fn coherent(z: &[f64], at: usize) -> Complex
     ensures { λ r. ⌜ r ≡ coherentOf (now (z .entry)) at ⌝ }
 {
     let before = complex::get(z, at - 1);
-    root::unit(complex::mul(complex::get(z, at), complex::conj(before)))
+    norm::unit(complex::mul(complex::get(z, at), complex::conj(before)))
 }
 
 // The sum of these over the marked symbols, whose places are given.
@@ -40,7 +39,7 @@ pub fn turn(z: &[f64], marks: &[usize]) -> Complex
     requires { ⌜ Preceded (length (now z)) (now marks) ⌝ }
     ensures { λ r. ⌜ r ≡ turnOf (now (z .entry)) (now (marks .entry)) ⌝ }
 {
-    root::unit(complex::conj(coherence(z, marks)))
+    norm::unit(complex::conj(coherence(z, marks)))
 }
 
 // A carrier's steps, turned by r: `to` isn't behind `from`, so that no symbol is written over before it is read.
@@ -91,7 +90,7 @@ pub fn mean_norm(steps: &[f64], n: usize) -> f64
     requires { ⌜ 2 * n ≤ length (now steps) ⌝ }
     ensures { λ r. ⌜ r ≡ meanNorm (λ k. cget (now (steps .entry)) k) n ⌝ }
 {
-    root::norm_sum(steps, n) / std::num::nearest_u64_to_f64(n as u64)
+    norm::norm_sum(steps, n) / std::num::nearest_u64_to_f64(n as u64)
 }
 
 // Divides the first n steps by g.
@@ -113,7 +112,7 @@ fn deviation(w: Complex) -> f64
     ensures { λ r. ⌜ r ≡ deviationOf w ⌝ }
 {
     let d = Complex {
-        re: w.re - root::norm(w),
+        re: w.re - norm::norm(w),
         im: w.im,
     };
     complex::norm_sqr(d)

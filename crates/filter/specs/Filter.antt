@@ -1,5 +1,5 @@
 -- Filter and step (01, "Tracks and filter"; rx/psk.rs, `filter`), of endless rows. Definitions only.
-use Prim.Native.Nat.{ℕ, _+_, _-_, max}
+use Prim.Native.Nat.{ℕ, _+_, _-_}
 use mathlib.Core.Bool.{cond}
 use mathlib.Core.List.{List}
 use lib.Dec.{leb}
@@ -25,7 +25,3 @@ filteredAt l book c s m =
 -- the step at position m, of filtered values y that begin at base: "a step with no neighbour 32 before is zero"
 unfoldable pub stepAt : ℕ → (ℕ → Complex) → ℕ → Complex
 stepAt base y m = cond (leb (base + 32) m) (unitOf (cmul (y m) (cconj (y (m - 32))))) czero
-
--- the end of the filtered track where the samples end at e: the first value waits for `delay` samples on either side
-abbrev pub filteredEnd : Layout → ℕ → ℕ → ℕ
-filteredEnd l start e = max (start + l .delay) (e - l .delay)

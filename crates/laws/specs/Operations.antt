@@ -7,7 +7,7 @@ use native.Mathlib.Omega.{arith}
 use mathlib.Core.Bool.{Bool, true, false, cond, Bool·beq}
 use lib.IntN.{pos}
 use lib.Dec.{T, ltb, eqb, ltb→lt, lt→ltb, eqb→eq}
-use lib.Ieee.{Float, nan, inf, fin, Format, up, down, unlike, round, neg, sum, add, sub, mul, div, lt, le, fits}
+use lib.Ieee.{Float, nan, inf, fin, Format, up, down, unlike, round, sum, add, sub, mul, div, lt, le, fits}
 use lib.Ieee.Scale.{finite, round-same}
 use lib.Ieee.Positive.{num, den, den-pos, positive, first-pos}
 use Rattle.laws.specs.Sign.{round-signed}
@@ -172,9 +172,6 @@ add-zeros f x y p q a b =
     none u v = omega arith
 
 -- ---- differences x - y for y ≤ x. With x = −0 and y = +0 the sign is set, so both are asked to be plain
-pub sub-signed : (f : Format) (x y : Float) → T (plain x) → T (plain y) → T (le y x) → Signed false (sub f x y)
-sub-signed f x y p q h = rw (sub-is f x y p q h) (round-signed f false _ _)
-
 -- the difference is at most x, so it is finite
 pub sub-plain : (f : Format) (x y : Float) → T (fits f x) → T (plain x) → T (plain y) → T (le y x)
     → T (plain (sub f x y))
@@ -185,12 +182,6 @@ sub-plain f x y t p q h =
   where
     less : (X x Y y : ℕ) → (X * y - Y * x) * x ≤ X * (x * y)
     less X x Y y = le-trans (mul-le-mul-right x (sub-le (X * y) (Y * x))) (omega arith)
-
-pub sub-inf : (f : Format) (y : Float) → T (finite y) → sub f (inf false) y ≡ inf false
-unfolding sub neg add
-sub-inf f nan p = absurd p
-sub-inf f (inf s) p = absurd p
-sub-inf f (fin s m e) p = refl
 
 -- equal numbers differ by +0
 pub sub-equal : (f : Format) (x y : Float) → T (plain x) → T (plain y) → T (le y x) → T (le x y) → sub f x y

@@ -47,9 +47,14 @@ cross-lt-le x y z a b c hc p q =
     (rw (mul-right-comm x c b) (mul-lt-mul-of-pos-right p hc))
     (rw (mul-right-comm y a c, mul-right-comm z a b) (mul-le-mul-right a q)))
 
-zero-factor : (x b : ℕ) → 0 < b → x * b ≤ 0 → x ≡ 0
+-- a factor of a product that is zero
+pub zero-factor : (x b : ℕ) → 0 < b → x * b ≤ 0 → x ≡ 0
 zero-factor zero b hb h = refl
 zero-factor (suc x) b hb h = absurd (omega (arith, mul-pos {m = suc x} {n = b} (omega arith) hb))
+
+-- no number is below zero
+pub none-below : (a b : ℕ) → ltb a (0 * b) ≡ false
+none-below a b = le-ltb a (0 * b) (let z : 0 * b ≡ 0 = zero-mul b in omega arith)
 
 below-opposite : (x y z a b c : ℕ) → 0 < a → 0 < c → 0 < y * c + z * b → y * a ≤ x * b → 0 < x * c + z * a
 below-opposite x y zero a b c ha hc h l =
@@ -150,6 +155,14 @@ lt-asym (fin s m e') (inf t) e = not-true t e
 lt-asym (fin s m e') (fin t n d) e = below-asym s t _ _ e
 
 -- a number below another is no NaN
+-- no float is below itself
+pub lt-irreflexive : (x : Float) → lt x x ≡ false
+lt-irreflexive x = go (lt x x) refl
+  where
+    go : (t : Bool) → lt x x ≡ t → lt x x ≡ false
+    go true h = lt-asym x x h
+    go false h = h
+
 pub lt-number : (x y : Float) → lt x y ≡ true → isNan x ≡ false
 unfolding lt isNan
 lt-number nan y e = clash e

@@ -4,7 +4,7 @@ use Prim.Native.Nat.{ℕ, _*_, _≤_, _<_}
 use native.Mathlib.Nat.{le-trans, le-of-eq, le-suc, mul-pos}
 use mathlib.Core.Bool.{Bool, true, false, not, _&&_, true≢false}
 use lib.Dec.{T, ltb, eqb, eqb→eq, ltb→lt, lt→ltb}
-use lib.Ieee.{Float, nan, inf, fin, up, down, le}
+use lib.Ieee.{Float, nan, inf, fin, up, down, le, isNan}
 use lib.Ieee.Fits.{and-l, up-pos}
 use lib.Ieee.Exact.{HasValue}
 use lib.Ieee.Order.{le-of-values}
@@ -17,6 +17,12 @@ pub plain-finite : (x : Float) → T (plain x) → T (finite x)
 plain-finite nan p = p
 plain-finite (inf s) p = p
 plain-finite (fin s m e) p = tt
+
+pub plain-number : (x : Float) → T (plain x) → isNan x ≡ false
+unfolding isNan
+plain-number nan p = absurd p
+plain-number (inf s) p = refl
+plain-number (fin s m e) p = refl
 
 pub plain-signed : (x : Float) → T (plain x) → Signed false x
 plain-signed nan p = p

@@ -1,9 +1,9 @@
 -- The sign of a float and of a rounded result: `round` keeps the sign that it is given. Assumes nothing.
-use mathlib.Core.Path.{_≡_, refl, sym, ap, _∙_, subst}
+use mathlib.Core.Path.{_≡_, refl, sym, ap, _∙_}
 use Prim.Native.Nat.{ℕ, zero, suc, _+_, _*_, _^_}
 use mathlib.Core.Bool.{Bool, true, false, not, cond}
-use lib.Dec.{T, ltb, eqb}
-use lib.Ieee.{Float, nan, inf, fin, Format, prec, emax, low, up, down, unlike, odd, units, round, neg, mul, isNan}
+use lib.Dec.{ltb}
+use lib.Ieee.{Float, nan, inf, fin, Format, prec, emax, low, odd, units, round, neg}
 use lib.Ieee.Fits.{round-is}
 use lib.Ieee.Exact.{HasValue, odd-sign}
 use Rattle.laws.specs.Floats.{Signed, signOf}
@@ -12,12 +12,6 @@ pub signed-of : (s : Bool) (x : Float) → Signed s x → signOf x ≡ s
 signed-of s nan h = absurd h
 signed-of s (inf t) h = h
 signed-of s (fin t m e) h = h
-
-pub signed-number : (s : Bool) (x : Float) → Signed s x → T (not (isNan x))
-unfolding isNan
-signed-number s nan p = p
-signed-number s (inf t) p = tt
-signed-number s (fin t m e) p = tt
 
 -- ---- `round`
 value-signed : (x : Float) (s : Bool) (a c : ℕ) → HasValue x s a c → Signed s x
@@ -51,29 +45,9 @@ units-neg f s q k = go (ltb (q * 2 ^ k) (2 ^ (low f + suc (emax f)))) q
 pub round-neg : (f : Format) (s : Bool) (a c : ℕ) → round f (not s) a c ≡ neg (round f s a c)
 round-neg f s a c = round-is f (not s) a c ∙ units-neg f s _ _ ∙ ap neg (sym (round-is f s a c))
 
--- ---- the negation, and a product that is no NaN
+-- ---- the negation
 pub neg-signed : (s : Bool) (x : Float) → Signed s x → Signed (not s) (neg x)
 unfolding neg
 neg-signed s nan p = p
 neg-signed s (inf t) p = ap not p
 neg-signed s (fin t m e) p = ap not p
-
-infinite-signed : (s t u : Bool) (b : Bool) → u ≡ unlike s t → T (not (isNan (cond b nan (inf u))))
-    → Signed (unlike s t) (cond b nan (inf u))
-unfolding isNan
-infinite-signed s t u true e n = absurd n
-infinite-signed s t u false e n = e
-
-pub mul-signed : (f : Format) (s t : Bool) (x y : Float) → Signed s x → Signed t y → T (not (isNan (mul f x y)))
-    → Signed (unlike s t) (mul f x y)
-unfolding mul
-mul-signed f s t nan y p q n = p
-mul-signed f s t (inf s') nan p q n = absurd q
-mul-signed f s t (inf s') (inf t') p q n = cc
-mul-signed f s t (inf s') (fin t' m d) p q n = infinite-signed s t (unlike s' t') (eqb m 0) (cc) n
-mul-signed f s t (fin s' m e) nan p q n = absurd q
-mul-signed f s t (fin s' m e) (inf t') p q n = infinite-signed s t (unlike s' t') (eqb m 0) (cc) n
-mul-signed f s t (fin s' m e) (fin t' k d) p q n =
-    let signs : unlike s' t' ≡ unlike s t = cc in
-    subst (λ (b : Bool). Signed b (mul f (fin s' m e) (fin t' k d))) signs
-    (round-signed f (unlike s' t') (m * up e * (k * up d)) (down e * down d))

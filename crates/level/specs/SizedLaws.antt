@@ -1,6 +1,6 @@
--- Each of the fifteen layouts has the sizes: computed over the rows. Assumes nothing.
-use Prim.Native.Nat.{ℕ, _+_, _*_, _≤_, _<_}
-use mathlib.Core.Path.{_≡_}
+-- Each of the fifteen layouts has the sizes: computed over the rows; and the room of its cells. Assumes nothing.
+use Prim.Native.Nat.{ℕ, _+_, _-_, _*_, _≤_, _<_}
+use mathlib.Core.Path.{_≡_, ap}
 use mathlib.Core.Bool.{Bool}
 use native.Mathlib.Omega.{arith}
 use native.Mathlib.Nat.{mul-le-mul}
@@ -81,3 +81,9 @@ row-most l i frames h =
 pub pulse-taps : (l : Layout) → IsLayout l → l .taps ≡ tapCount (pulseOf (l .taps))
 unfolding layoutOf
 pulse-taps l i = equal l i (λ x. x .taps) (λ x. tapCount (pulseOf (x .taps))) tt
+
+-- the cells of a carrier are its symbols but the first and the marks
+pub cells-room : (l : Layout) → Sized l → l .nc * (l .nsym - 1 - l .markers) ≡ l .nc * cells l
+cells-room l z =
+    let e : l .nsym - 1 - l .markers ≡ cells l = omega (arith, z .cells-are) in
+    ap (λ (k : ℕ). l .nc * k) e

@@ -6,10 +6,11 @@ use native.Mathlib.Omega.{arith}
 use lib.ListN.{length}
 use lib.Ieee.{Float}
 use Rattle.complex.specs.declared.Complex.{Complex}
-use Rattle.chi.specs.Dot.{dotAt}
-use Rattle.search.specs.declared.Chi.{Chi}
-use Rattle.search.specs.declared.Counts.{Counts}
-use Rattle.search.specs.Flat.{countsOf, flatChi}
+use Rattle.dot.specs.Dot.{dotAt}
+use Rattle.offers.specs.declared.Chi.{Chi}
+use Rattle.offers.specs.declared.Counts.{Counts}
+use Rattle.offers.specs.Counts.{countsOf}
+use Rattle.search.specs.Flat.{flatChi}
 use Rattle.locate.specs.Fits.{flatAt, chiOf}
 
 -- chi from the two sums at a position, which is `at` past the base

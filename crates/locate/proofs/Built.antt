@@ -10,9 +10,9 @@ use Rattle.level.specs.declared.Layout.{Layout}
 use Rattle.track.specs.declared.Span.{Span}
 use Rattle.chi.specs.declared.Sum.the-variants.{Pilot, Data}
 use Rattle.chi.specs.Table.{Tabled}
-use Rattle.chi.specs.Dot.{DotFits}
-use Rattle.search.specs.declared.Chi.{Chi}
-use Rattle.search.specs.Chi.{Tables}
+use Rattle.dot.specs.Dot.{DotFits}
+use Rattle.offers.specs.declared.Chi.{Chi}
+use Rattle.offers.specs.Chi.{Tables}
 use Rattle.search.specs.Fits.{stepsIn, powersIn}
 use Rattle.search.specs.Flat.{Built}
 use Rattle.search.specs.FlatChi.{chi-fits, chi-is, pilot-is}

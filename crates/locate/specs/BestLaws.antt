@@ -8,8 +8,8 @@ use native.Mathlib.Nat.{eq-or-lt-of-le, le-of-suc-le-suc}
 use native.Mathlib.Numerals.{add-one}
 use native.Mathlib.Omega.{arith}
 use lib.Ieee.{Float, lt, le, isNan}
-use Rattle.laws.specs.Order.{lt-asym, lt-number, lt-le, le-lt-trans, not-lt-le}
-use Rattle.search.specs.declared.Chi.{Chi}
+use Rattle.laws.specs.Order.{lt-irreflexive, lt-number, lt-le, le-lt-trans, not-lt-le}
+use Rattle.offers.specs.declared.Chi.{Chi}
 use Rattle.locate.specs.declared.Located.{Located}
 use Rattle.locate.specs.Locate.{locatedAt, betterOf, bestFrom}
 
@@ -40,15 +40,8 @@ pub record First (f : ℕ → Chi) (p n : ℕ) (r : Located) : Type 0 where
   pub greatest : (i : ℕ) → i ≤ n → le (f (p + i) .chi) (r .chi) ≡ true
   pub first : (i : ℕ) → i < index → lt (f (p + i) .chi) (r .chi) ≡ true
 
-not-below-itself : (x : Float) → lt x x ≡ false
-not-below-itself x = go (lt x x) refl
-  where
-    go : (b : Bool) → lt x x ≡ b → b ≡ false
-    go true e = sym e ∙ lt-asym x x e
-    go false e = refl
-
 le-self : (x : Float) → isNan x ≡ false → le x x ≡ true
-le-self x n = not-lt-le x x n n (not-below-itself x)
+le-self x n = not-lt-le x x n n (lt-irreflexive x)
 
 -- one position more: it is strictly greater, or it isn't
 module _ (f : ℕ → Chi) (p n : ℕ) (h : (i : ℕ) → i ≤ suc n → isNan (f (p + i) .chi) ≡ false)

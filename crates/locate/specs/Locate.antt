@@ -5,8 +5,8 @@ use mathlib.Core.Bool.{cond}
 use lib.Ieee.{lt}
 use Rattle.complex.specs.declared.Complex.{Complex}
 use Rattle.level.specs.declared.Layout.{Layout}
-use Rattle.search.specs.declared.Chi.{Chi}
-use Rattle.search.specs.Chi.{Tables, pilotSum, chiAt}
+use Rattle.offers.specs.declared.Chi.{Chi}
+use Rattle.offers.specs.Chi.{Tables, pilotSum, chiAt}
 use Rattle.locate.specs.declared.Located.{Located}
 
 -- position p, with chi and the pilot sum there

@@ -6,14 +6,14 @@ ghost use Rattle.chi.specs.declared.Sum.the-variants.{Pilot, Data};
 ghost use Rattle.chi.specs.Table.{TableRoom};
 ghost use Rattle.locate.specs.Locate.{locatedAt, betterOf, bestFrom, bestAround};
 ghost use Rattle.search.specs.Fits.{stepsIn, powersIn};
-ghost use Rattle.search.specs.Flat.{countsOf};
+ghost use Rattle.offers.specs.Counts.{countsOf};
 ghost use Rattle.locate.specs.Fits.{flatAt, chiOf, ChiThree, ChiFour, ChiFits, FlatFits, LocateFits};
 use chi::Sum;
 use complex::Complex;
 use level::Layout;
+use offers::Chi;
+use offers::Counts;
 use refusal::Position;
-use search::Chi;
-use search::Counts;
 use track::Span;
 
 // Where a frame stands, with chi and the pilot sum there.
@@ -49,7 +49,7 @@ fn chi_of(n: Counts, a: Complex, b: Complex) -> Chi
     ensures { λ r. ⌜ r ≡ chiOf n a b ⌝ }
 {
     Chi {
-        chi: search::chi_from(n, a, b),
+        chi: offers::chi_from(n, a, b),
         pilot_sum: a,
     }
 }
@@ -78,8 +78,8 @@ fn chi_three(
         (now («mark_refs» .entry)) (now (cells .entry)) (now («cell_refs» .entry)) base) p r ⌝ }
 {
     let at = (p - base) as usize;
-    let a = chi::dot_three(memory, marks, mark_refs, at);
-    let b = chi::dot_three(memory, cells, cell_refs, at);
+    let a = dot::dot_three(memory, marks, mark_refs, at);
+    let b = dot::dot_three(memory, cells, cell_refs, at);
     ThreeChi {
         first: chi_of(n, a.first, b.first),
         second: chi_of(n, a.second, b.second),
@@ -110,8 +110,8 @@ fn chi_four(
         (now («mark_refs» .entry)) (now (cells .entry)) (now («cell_refs» .entry)) base) p r ⌝ }
 {
     let at = (p - base) as usize;
-    let a = chi::dot_four(memory, marks, mark_refs, at);
-    let b = chi::dot_four(memory, cells, cell_refs, at);
+    let a = dot::dot_four(memory, marks, mark_refs, at);
+    let b = dot::dot_four(memory, cells, cell_refs, at);
     let c = a.behind;
     let d = b.behind;
     let first = chi_of(n, a.first, b.first);
@@ -148,7 +148,7 @@ fn locate_tables(
     ensures { λ r. ⌜ r ≡ bestFrom (flatAt (now (memory .entry)) (now (marks .entry))
         (now («mark_refs» .entry)) (now (cells .entry)) (now («cell_refs» .entry)) base) lo 6 ⌝ }
 {
-    let n = search::counts_of(marks.len(), cells.len());
+    let n = offers::counts_of(marks.len(), cells.len());
     let x = chi_four(memory, marks, mark_refs, cells, cell_refs, n, base, lo);
     let first = at_position(lo, x.first);
     let best = better_three(first, lo + 1, x.behind);

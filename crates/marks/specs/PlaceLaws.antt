@@ -9,9 +9,9 @@ use lib.ListN.{length, getD, length-map, List·getD-map}
 use Rattle.complex.specs.ListLaws.{each-append, each-map, each-at}
 use Rattle.complex.specs.Lists.{Each}
 use Rattle.level.specs.declared.Layout.{Layout}
-use Rattle.dat.specs.Cells as dat
-use Rattle.dat.specs.Cells.{cellAt, byCarrier}
-use Rattle.dat.specs.Counts.{byCarrier-count}
+use Rattle.cells.specs.Cells as frame
+use Rattle.cells.specs.Cells.{cellAt, byCarrier}
+use Rattle.cells.specs.Counts.{byCarrier-count}
 use Rattle.dat.specs.Accepted.{Markers}
 use Rattle.dat.specs.AcceptedLaws.{row-in}
 use Rattle.chi.specs.Cells.{InRow, InFrame}
@@ -32,7 +32,7 @@ module _ (kind : Kind) (l : Layout) (table : List ℕ) where
       (symbolsOf kind l table n) (symbols-in l table kind n))
 
   -- symbol k of the kind
-  abbrev pub numbered : ℕ → dat.Cell
+  abbrev pub numbered : ℕ → frame.Cell
   numbered k = getD (byCarrier (symbolsOf kind l table) (l .nc)) k (cellAt 0 0)
 
   module _ (stride back : ℕ) where

@@ -16,14 +16,15 @@ use Rattle.level.specs.Rows.{IsLayout}
 use Rattle.level.specs.RowLaws.{is-layout}
 use Rattle.level.specs.SizedLaws.{sized}
 use Rattle.steps.specs.Steps.{powerOf}
-use Rattle.filter.specs.Filter.{filteredEnd}
+use Rattle.positions.specs.Positions.{filteredEnd}
 use Rattle.hold.specs.declared.Hold.{Hold}
 use Rattle.hold.specs.Offer.{freshHold}
 use Rattle.hold.specs.History.{Detection, Offer}
 use Rattle.hold.specs.Releases.{holdAfter, releases}
 use Rattle.hold.specs.ReleasesLaws.{releases-append}
-use Rattle.search.specs.Chi.{Tables}
-use Rattle.search.specs.Search.{reach, searchCount, offersFrom}
+use Rattle.offers.specs.Chi.{Tables}
+use Rattle.offers.specs.Search.{offersFrom}
+use Rattle.positions.specs.Positions.{reach, searchCount}
 use Rattle.search.specs.Offers.{search-inside}
 use Rattle.rx.specs.Receiver.{Feed}
 use Rattle.modem.specs.Ideal.{joined, sampleRow, broughtBy, filteredRow, stepRow, powerRow, chiRow, firstPlace, offersOf}

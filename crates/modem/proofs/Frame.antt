@@ -28,7 +28,7 @@ use Rattle.level.specs.declared.Layout.{Layout}
 use Rattle.level.specs.Lengths.{cells}
 use Rattle.level.specs.Sized.{Sized}
 use Rattle.level.specs.SizedLaws.{sized}
-use Rattle.dat.specs.Cells.{Cell, cellAt}
+use Rattle.cells.specs.Cells.{Cell, cellAt}
 use Rattle.dat.specs.AcceptedLaws.{row-in}
 use Rattle.demap.specs.SignLaw.{PartsWithin, Variance}
 use Rattle.demap.specs.PskLaws.{read-says, read-by}

@@ -6,21 +6,20 @@ use mathlib.Core.List.{List}
 use native.Mathlib.Omega.{arith}
 use native.Mathlib.Nat.{add-zero}
 use lib.Ieee.{Float, isNan, le}
-use Rattle.complex.specs.Lists.{Each}
+use Rattle.complex.specs.Lists.{Each, tabulate}
 use Rattle.laws.specs.Order.{le-number}
 use Rattle.complex.specs.declared.Complex.{Complex}
-use Rattle.complex.specs.Lists.{tabulate}
 use Rattle.complex.specs.ListLaws.{tabulate-ext}
 use Rattle.complex.specs.Pairs.{complexes}
 use Rattle.level.specs.declared.Layout.{Layout}
 use Rattle.level.specs.Rows.{IsLayout}
 use Rattle.track.specs.Window.{window}
 use Rattle.track.specs.Memory.{trackIn}
-use Rattle.filter.specs.Filter.{filteredEnd}
+use Rattle.positions.specs.Positions.{filteredEnd}
 use Rattle.hold.specs.declared.Candidate.the-variants.{NoCandidate, Metric}
 use Rattle.hold.specs.Offer.{freshHold}
 use Rattle.hold.specs.History.{Number}
-use Rattle.search.specs.Chi.{least, candidateOf}
+use Rattle.offers.specs.Chi.{least, candidateOf}
 use Rattle.state.specs.declared.SearchPlace.the-variants.{Fresh}
 use Rattle.rx.specs.Receiver.{opened, emptyCarrier, Feed}
 use Rattle.rx.specs.View.{carrierIn, view}

@@ -13,9 +13,9 @@ use Rattle.refusal.specs.Clear.{neither}
 use Rattle.complex.specs.declared.Complex.{Complex}
 use Rattle.complex.specs.Lists.{tabulate}
 use Rattle.level.specs.declared.Layout.{Layout}
-use Rattle.filter.specs.Filter.{filteredEnd}
+use Rattle.positions.specs.Positions.{filteredEnd}
 use Rattle.track.specs.Track.{valueAt}
-use Rattle.search.specs.Search.{reach}
+use Rattle.positions.specs.Positions.{reach}
 use Rattle.state.specs.declared.State.{State}
 use Rattle.rx.specs.declared.FeedAnswer.{FeedAnswer}
 use Rattle.rx.specs.Receiver.{Carrier, Receiver, Feed, carrierOf}

@@ -15,13 +15,14 @@ use Rattle.complex.specs.Lists.{tabulate}
 use Rattle.level.specs.declared.Layout.{Layout}
 use Rattle.level.specs.Lengths.{memoryLength}
 use Rattle.level.specs.Rows.{IsLayout}
-use Rattle.filter.specs.Filter.{filteredEnd}
+use Rattle.positions.specs.Positions.{filteredEnd}
 use Rattle.hold.specs.declared.Release.{Release}
 use Rattle.hold.specs.declared.Release.the-variants.{NoRelease, Released}
 use Rattle.hold.specs.History.{Offer, Detection}
 use Rattle.hold.specs.Releases.{released, holdAfter, releases}
 use Rattle.hold.specs.ReleasesLaws.{holdAfter-append, releases-append}
-use Rattle.search.specs.Search.{reach, searchCount, offersFrom}
+use Rattle.offers.specs.Search.{offersFrom}
+use Rattle.positions.specs.Positions.{reach, searchCount}
 use Rattle.state.specs.declared.State.{State}
 use Rattle.rx.specs.declared.FeedAnswer.{FeedAnswer}
 use Rattle.rx.specs.declared.FeedAnswer.the-variants.{Accepted, Refused}

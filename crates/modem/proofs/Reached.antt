@@ -12,11 +12,12 @@ use Rattle.level.specs.Rows.{IsLayout}
 use Rattle.level.specs.SizedLaws.{sized}
 use Rattle.track.specs.Window.{window}
 use Rattle.track.specs.Track.{trimmedBase}
-use Rattle.filter.specs.Filter.{filteredEnd}
+use Rattle.positions.specs.Positions.{filteredEnd}
 use Rattle.hold.specs.declared.Hold.{Hold}
 use Rattle.hold.specs.History.{Offer}
 use Rattle.hold.specs.Releases.{holdAfter, releases}
-use Rattle.search.specs.Search.{searchCount, offersFrom}
+use Rattle.offers.specs.Search.{offersFrom}
+use Rattle.positions.specs.Positions.{searchCount}
 use Rattle.state.specs.declared.SearchPlace.{SearchPlace}
 use Rattle.state.specs.declared.State.{State}
 use Rattle.state.specs.Places.{placeOr, searchFrom, placeAfter}

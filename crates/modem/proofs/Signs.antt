@@ -17,7 +17,7 @@ use Rattle.level.specs.Lengths.{cells}
 use Rattle.level.specs.Rows.{IsLayout}
 use Rattle.level.specs.Sized.{Sized}
 use Rattle.level.specs.SizedLaws.{sized}
-use Rattle.dat.specs.Cells.{cellAt}
+use Rattle.cells.specs.Cells.{cellAt}
 use Rattle.dat.specs.Accepted.{Markers}
 use Rattle.dat.specs.AcceptedLaws.{markers-of, row-in}
 use Rattle.demap.specs.SignLaw.{PartsWithin, Variance}

@@ -12,7 +12,7 @@ use Rattle.constellation.specs.Alphabet.{alphabet, pointOf}
 use Rattle.constellation.specs.Points.{sameNumber}
 use Rattle.level.specs.declared.Layout.{Layout}
 use Rattle.level.specs.Lengths.{cells}
-use Rattle.dat.specs.Cells.{Cell}
+use Rattle.cells.specs.Cells.{Cell}
 use Rattle.demap.specs.Nearest.{nearest}
 use Rattle.rows.specs.Symbols.{Sending, IsCell}
 use Rattle.psk.specs.Step.{sentStep}

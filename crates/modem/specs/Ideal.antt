@@ -19,11 +19,13 @@ use Rattle.dat.specs.Tables.{tableFault}
 use Rattle.track.specs.Window.{window}
 use Rattle.track.specs.Track.{Track}
 use Rattle.steps.specs.Steps.{powerOf}
-use Rattle.filter.specs.Filter.{filteredAt, stepAt, filteredEnd}
+use Rattle.filter.specs.Filter.{filteredAt, stepAt}
+use Rattle.positions.specs.Positions.{filteredEnd}
 use Rattle.hold.specs.declared.Hold.{Hold}
 use Rattle.hold.specs.History.{Offer}
-use Rattle.search.specs.Chi.{chiAt}
-use Rattle.search.specs.Search.{evenUp, reach, searchCount, offersFrom}
+use Rattle.offers.specs.Chi.{chiAt}
+use Rattle.offers.specs.Search.{offersFrom}
+use Rattle.positions.specs.Positions.{evenUp, reach, searchCount}
 use Rattle.state.specs.declared.SearchPlace.{SearchPlace}
 use Rattle.state.specs.Conditions.{otherNumbers}
 use Rattle.feed_fault.specs.Conditions.{wrongBook, wrongSamples, wrongNumber, wrongParts}

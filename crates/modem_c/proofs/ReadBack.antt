@@ -19,10 +19,10 @@ use Rattle.level.specs.RowLaws.{is-layout, at-most}
 use Rattle.dat.specs.Tables.{tableFault}
 use Rattle.hold.specs.declared.Hold.{Hold}
 use Rattle.hold.specs.declared.Candidate.{Candidate}
-use Rattle.hold.specs.declared.LoneAnswer.{LoneAnswer}
-use Rattle.hold.specs.declared.LoneAnswer.the-variants as lone
+use Rattle.lone.specs.declared.LoneAnswer.{LoneAnswer}
+use Rattle.lone.specs.declared.LoneAnswer.the-variants as lone
 use Rattle.hold.specs.Offer.{offered}
-use Rattle.hold.specs.LoneOffer.{loneFault, outcome, unlessMet, LoneOffers}
+use Rattle.lone.specs.LoneOffer.{loneFault, outcome, unlessMet, LoneOffers}
 use Rattle.state.specs.declared.State.{State}
 use Rattle.rx.specs.declared.FeedAnswer.{FeedAnswer}
 use Rattle.rx.specs.declared.FeedAnswer.the-variants.{Accepted, Refused}

@@ -17,9 +17,9 @@ use Rattle.hold.specs.declared.Hold.{Hold}
 use Rattle.hold.specs.declared.Candidate.{Candidate}
 use Rattle.hold.specs.declared.Candidate.the-variants.{NoCandidate, Metric}
 use Rattle.hold.specs.declared.Release.{Release}
-use Rattle.hold.specs.declared.LoneAnswer.{LoneAnswer}
-use Rattle.hold.specs.declared.LoneAnswer.the-variants.{Refused}
-use Rattle.hold.specs.LoneOffer.{outcome, LoneOffers}
+use Rattle.lone.specs.declared.LoneAnswer.{LoneAnswer}
+use Rattle.lone.specs.declared.LoneAnswer.the-variants.{Refused}
+use Rattle.lone.specs.LoneOffer.{outcome, LoneOffers}
 use Rattle.state.specs.declared.State.{State}
 use Rattle.rx.specs.declared.FeedAnswer.{FeedAnswer}
 use Rattle.rx.specs.declared.FeedAnswer.the-variants as feed

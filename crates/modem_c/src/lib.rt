@@ -12,8 +12,8 @@ ghost use Rattle.modem_c.specs.ReadingCalls.{shortResult, LocateCall, Re
 mod results;
 
 use hold::Candidate;
-use hold::LoneAnswer;
 use level::Chosen;
+use lone::LoneAnswer;
 use reading::LocateAnswer;
 use reading::ReadAnswer;
 use refusal::Fault;
@@ -156,7 +156,7 @@ pub extern "C" fn dimpstea_offer(
     }
     let h = numbers::hold_at(hold, 0, *held_metric);
     let candidate = candidate_of(has_metric, metric);
-    let offered = hold::lone_offer(h, Position(position), candidate);
+    let offered = lone::lone_offer(h, Position(position), candidate);
     let answer = offered.answer;
     match answer {
         LoneAnswer::Refused(r) => refusal::number(r),

@@ -7,11 +7,11 @@ use lib.ListN.{length}
 use borrow.Author.Tests.{eq-eqb, ne-eqb}
 use Rattle.refusal.specs.declared.Refusal.the-variants as no
 use Rattle.refusal.specs.Outcome.{done, after, codeOf}
-use Rattle.hold.specs.declared.LoneAnswer.{LoneAnswer}
-use Rattle.hold.specs.declared.LoneAnswer.the-variants.{Refused, Answered}
-use Rattle.hold.specs.LoneOffer.{outcome}
-use Rattle.hold.specs.LoneCalls.{none, next, releasedBy, loneAnswers}
-use Rattle.hold.proofs.LoneHistory.{lone-history}
+use Rattle.lone.specs.declared.LoneAnswer.{LoneAnswer}
+use Rattle.lone.specs.declared.LoneAnswer.the-variants.{Refused, Answered}
+use Rattle.lone.specs.LoneOffer.{outcome}
+use Rattle.lone.specs.LoneCalls.{none, next, releasedBy, loneAnswers}
+use Rattle.lone.proofs.LoneHistory.{lone-history}
 use Rattle.numbers.specs.Numbers.{holdNumbers, heldMetric, LentRelease}
 use Rattle.modem_c.specs.Calls.{LentState, lentState, OfferCall}
 use Rattle.modem_c.proofs.ReadBack.{offered-read}

@@ -13,11 +13,11 @@ use Rattle.level.specs.Lengths.{memoryLength}
 use Rattle.level.specs.Layout.{chosen}
 use Rattle.hold.specs.declared.Block.the-variants.{First}
 use Rattle.hold.specs.declared.Hold.{Hold}
-use Rattle.hold.specs.declared.LoneAnswer.{LoneAnswer}
+use Rattle.lone.specs.declared.LoneAnswer.{LoneAnswer}
 use Rattle.hold.specs.Offer.{freshHold}
 use Rattle.hold.specs.History.{Offer, Detection, History}
 use Rattle.hold.specs.Releases.{holdAfter}
-use Rattle.hold.specs.LoneCalls.{LoneCalls, releasedBy, loneAnswers, loneVerdict, acceptedOffers}
+use Rattle.lone.specs.LoneCalls.{LoneCalls, releasedBy, loneAnswers, loneVerdict, acceptedOffers}
 use Rattle.state.specs.declared.State.{State}
 use Rattle.rx.specs.declared.FeedAnswer.{FeedAnswer}
 use Rattle.rx.specs.Feed.{Given}

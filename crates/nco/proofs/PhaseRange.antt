@@ -9,13 +9,14 @@ use lib.Dec.{T, leb, ltb, eqb, leb→le, eqb→eq, lit≤}
 use borrow.Author.Tests.{ltb-false, le-ltb, not-false}
 use lib.ListN.{getD}
 use lib.IntN.{ℤ, pos}
-use lib.Ieee.{Float, nan, inf, fin, binary32, up, down, round, add, sub, le, lt, isNan, ofBits}
+use lib.Ieee.{Float, nan, inf, fin, binary32, up, down, round, add, sub, le, lt, ofBits}
 use lib.Ieee as Ieee
+use lib.Ieee.Bits.{is-true}
 use lib.Ieee.Fits.{down-pos, and-i}
 use lib.Ieee.Scale.{finite}
 use lib.Ieee.Positive.{num, den, den-pos}
 use Rattle.laws.specs.Sign.{round-signed}
-use Rattle.laws.specs.Plain.{plain-finite, le-cross, cross-le}
+use Rattle.laws.specs.Plain.{plain-finite, plain-number, le-cross, cross-le}
 use Rattle.laws.specs.Floats.{plain, Within}
 use Rattle.laws.specs.Order.{lt-le, not-lt-le}
 use Rattle.laws.specs.Size.{within-plain, round-within}
@@ -24,7 +25,6 @@ use Rattle.laws.specs.Ranges.{in-range-finite}
 use Rattle.laws.specs.Tests.{inRange}
 use Rattle.refusal.specs.AnyLaws.{any-false, any-below}
 use Rattle.complex.specs.ListLaws.{getD-tabulate}
-use Rattle.level.specs.declared.Layout.{Layout}
 use Rattle.level.specs.Lengths.{carrierHz}
 use Rattle.level.specs.Tested.{every, and-left, and-right}
 use Rattle.nco.specs.Phase.{wrapped, phaseNext, phaseAfter, carrierPhase, phasesAfter}
@@ -157,12 +157,6 @@ in-range : (z : Float) → T (plain z) → T (le z tau) → T (inRange zero32 ta
 unfolding inRange Ieee.ofBits
 in-range z p h = and-i (le zero32 z) (le z tau) (cross-le (fin false 0 (pos 0)) z tt p (omega arith)) h
 
-plain-number : (z : Float) → T (plain z) → isNan z ≡ false
-unfolding isNan
-plain-number nan p = absurd p
-plain-number (inf s) p = refl
-plain-number (fin s m e) p = refl
-
 wrapped-stays : (s : Float) → T (plain s) → Within s 3 → T (inRange zero32 tau (wrapped s))
 wrapped-stays s p w = go (lt tau s) refl
   where
@@ -194,7 +188,3 @@ phases-stay l window phases h =
     let before : inRange zero32 tau (getD phases c nan) ≡ true = not-false _ (any-below (λ c. not (inRange zero32 tau (getD phases c nan))) (l .nc) c h g) in
     let then : inRange zero32 tau (carrierPhase l phases c window) ≡ true = is-true _ (after-stays (carrierHz l c) (getD phases c nan) window (rw before tt)) in
     rw (getD-tabulate (λ c. carrierPhase l phases c window) (l .nc) c nan g, then) refl)
-  where
-    is-true : (b : Bool) → T b → b ≡ true
-    is-true true t = refl
-    is-true false t = absurd t

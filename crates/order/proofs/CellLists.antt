@@ -1,6 +1,6 @@
 -- Lists of cells: places in them, sorted lists, and permutations. Assumes nothing.
 use Prim.Native.Nat.{ℕ, zero, suc, _<_}
-use mathlib.Core.Path.{_≡_, refl, sym, ap, ap₂, _∙_}
+use mathlib.Core.Path.{_≡_, refl, ap, ap₂, _∙_}
 use mathlib.Core.Logic.{_⊎_, inl, inr, ⊎-elim}
 use mathlib.Core.Bool.{Bool, true, false, _&&_}
 use mathlib.Core.List.{List, [], _∷_, _++_, append-assoc}
@@ -14,7 +14,7 @@ use lib.Dec.{eqb}
 use lib.ListN.{length, getD}
 use Rattle.complex.specs.Lists.{Each}
 use Rattle.complex.specs.ListLaws.{each-append, each-at}
-use Rattle.dat.specs.Cells.{Cell, cellAt}
+use Rattle.cells.specs.Cells.{Cell, cellAt}
 use Rattle.order.specs.TimeCells.{sameCell, placeIn}
 
 -- ---- the same cell

@@ -15,11 +15,11 @@ use Rattle.complex.specs.Lists.{Each}
 use Rattle.complex.specs.ListLaws.{each-append, each-implies}
 use Rattle.level.specs.declared.Layout.{Layout}
 use Rattle.level.specs.Lengths.{cells}
-use Rattle.dat.specs.Cells.{Cell, cellAt, symbolsWhere, byCarrier, cellsOf}
-use Rattle.dat.specs.Counts.{cells-count, byCarrier-count}
+use Rattle.cells.specs.Cells.{Cell, cellAt, symbolsWhere, byCarrier, cellsOf}
+use Rattle.cells.specs.Counts.{cells-count, byCarrier-count}
 use Rattle.dat.specs.Accepted.{Markers}
 use Rattle.dat.specs.AcceptedLaws.{row-in}
-use Rattle.dat.specs.CellLaws.{byCarrier-at}
+use Rattle.cells.specs.CellLaws.{byCarrier-at}
 use Rattle.order.specs.TimeCells.{symbolCells, bySymbol, isData, timeCells, carrierCells, sameCell, placeIn}
 use Rattle.order.specs.Restored.{Earlier}
 use Rattle.order.proofs.CellLists.{Rising, rising-append, once, interchange, perm-length}

@@ -3,28 +3,27 @@ use Prim.Native.Nat.{ℕ, suc, _+_, _-_, _*_, _/_, _%_, _<_, _≤_}
 use mathlib.Core.Path.{_≡_, refl, sym, ap, _∙_, subst}
 use mathlib.Core.Logic.{_⊎_, inl, inr, ⊎-elim}
 use mathlib.Core.Bool.{Bool, true, false}
-use mathlib.Core.List.{List, _++_, map}
+use mathlib.Core.List.{List, _++_}
 use native.Mathlib.Nat.{eq-or-lt-of-le, suc-mul, mul-le-mul-right, mod-lt, div-lt-iff-lt-mul, div-add-mod'}
 use native.Mathlib.Omega.{arith}
 use borrow.Author.Tests.{ltb-true, ltb-false}
 use lib.Dec.{ltb}
-use lib.ListN.{length, getD, take, drop, length-append, length-drop, length-map, List·getD-append, List·getD-map}
+use lib.ListN.{length, getD, take, drop, length-drop, length-map, List·getD-append, List·getD-map}
 use lib.Seq.{paste, length-paste, length-paste-head, length-take-le, getD-append-add, getD-take, getD-drop, ext-getD}
 use lib.Ieee.{Float, nan}
 use Rattle.complex.specs.Lists.{tabulate}
 use Rattle.complex.specs.ListLaws.{length-tabulate, getD-tabulate, getD-default}
 use Rattle.level.specs.declared.Layout.{Layout}
 use Rattle.level.specs.Lengths.{cells}
-use Rattle.dat.specs.Cells.{Cell, cellAt}
+use Rattle.cells.specs.Cells.{Cell, cellAt}
 use Rattle.dat.specs.Accepted.{Markers}
-use Rattle.dat.specs.AcceptedLaws.{row-in}
 use Rattle.order.specs.TimeCells.{timeCells, carrierCells, placeIn}
 use Rattle.order.specs.Places.{timePlaces}
 use Rattle.order.specs.SoftOrder.{rearranged, byTime, byCarrier, inOrder}
 use Rattle.order.specs.declared.Order.the-variants.{Time, Carrier}
 use Rattle.order.proofs.CellLists.{Placed, placed, member, perm-member}
 use Rattle.order.proofs.CellOrder.{time-permuted, time-once, carrier-once, time-count, carrier-count}
-use mathlib.Core.List.{List·Memᴰ, Permᴰ·symm}
+use mathlib.Core.List.{Permᴰ·symm}
 
 -- ---- a copy, entry by entry
 module _ (d s : List Float) (at n : ℕ) (D : at + n ≤ length d) (S : n ≤ length s) where

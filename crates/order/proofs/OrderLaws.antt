@@ -1,5 +1,5 @@
 -- How a call for an order ends, and what it knows that has met no fault. Assumes nothing.
-use Prim.Native.Nat.{ℕ, _-_, _*_, _≤_}
+use Prim.Native.Nat.{ℕ, _-_, _≤_}
 use mathlib.Core.Path.{_≡_, refl, sym, ap, _∙_}
 use mathlib.Core.Bool.{not, _||_}
 use mathlib.Core.List.{List}
@@ -10,14 +10,13 @@ use lib.ListN.{length, take, length-take}
 use lib.Ieee.{Float}
 use Rattle.refusal.specs.declared.Refusal.{Refusal}
 use Rattle.refusal.specs.declared.Fault.{Fault}
-use Rattle.refusal.specs.declared.Fault.the-variants.{Clear, Met}
+use Rattle.refusal.specs.declared.Fault.the-variants.{Clear}
 use Rattle.refusal.specs.declared.Answer.{Answer}
 use Rattle.refusal.specs.declared.Answer.the-variants.{Done, Refused}
 use Rattle.refusal.specs.Refusal.{numberOf}
 use Rattle.refusal.specs.Outcome.{Outcome, refused, answered, judged}
 use Rattle.refusal.specs.Clear.{neither, clear-first, clear-both}
 use Rattle.level.specs.declared.Layout.{Layout}
-use Rattle.level.specs.Lengths.{cells}
 use Rattle.level.specs.Sized.{Sized}
 use Rattle.dat.specs.Tables.{markerFault}
 use Rattle.dat.specs.Accepted.{Markers}
@@ -62,12 +61,6 @@ ready l table soft out z h =
       soft-is = eqb-true soft (l .n) (not-false (eqb soft (l .n)) (u .0));
       out-is = eqb-true out (l .n) (not-false (eqb out (l .n)) (u .1));
     }
-
--- ---- room for the places
-pub cells-room : (l : Layout) → Sized l → l .nc * (l .nsym - 1 - l .markers) ≡ l .nc * cells l
-cells-room l z =
-    let e : l .nsym - 1 - l .markers ≡ cells l = omega (arith, z .cells-are) in
-    ap (λ (k : ℕ). l .nc * k) e
 
 -- the front of an array that is long enough
 pub front : (k m : ℕ) (xs : List ℕ) → k ≡ m → k ≤ length xs → length (take (k - 0) xs) ≡ m

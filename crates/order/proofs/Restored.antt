@@ -1,22 +1,20 @@
 -- `NothingIsLost` holds: of two lists of the same cells, each order is restored from the other. Assumes nothing.
-use Prim.Native.Nat.{ℕ, _+_, _*_, _/_, _%_, _<_, _≤_}
+use Prim.Native.Nat.{ℕ, _+_, _*_, _/_, _%_, _<_}
 use mathlib.Core.Path.{_≡_, refl, sym, ap, ap₂, _∙_}
 use mathlib.Core.List.{List, List·Permᴰ, Permᴰ·symm}
 use native.Mathlib.Nat.{mod-lt, div-lt-iff-lt-mul, div-add-mod'}
-use native.Mathlib.Omega.{arith}
 use lib.ListN.{length, getD}
 use Rattle.complex.specs.Lists.{tabulate}
-use Rattle.complex.specs.ListLaws.{length-tabulate, getD-tabulate, tabulate-ext, tabulate-getD}
+use Rattle.complex.specs.ListLaws.{getD-tabulate, tabulate-ext, tabulate-getD}
 use Rattle.complex.specs.Rows.{quotient, remainder}
 use Rattle.level.specs.declared.Layout.{Layout}
-use Rattle.level.specs.Lengths.{cells}
 use Rattle.level.specs.SizedLaws.{sized}
-use Rattle.dat.specs.Cells.{Cell, cellAt}
+use Rattle.cells.specs.Cells.{Cell, cellAt}
 use Rattle.dat.specs.Accepted.{Markers}
 use Rattle.dat.specs.AcceptedLaws.{row-in, markers-of}
 use Rattle.order.specs.TimeCells.{timeCells, carrierCells, placeIn}
 use Rattle.order.specs.SoftOrder.{rearranged, byTime, byCarrier}
-use Rattle.order.specs.Restored.{Earlier, nth, listed, SoftBitsByTime, NothingIsLost}
+use Rattle.order.specs.Restored.{Earlier, nth, SoftBitsByTime, NothingIsLost}
 use Rattle.order.proofs.CellLists.{Placed, placed, member, perm-member, rising-at}
 use Rattle.order.proofs.CellOrder.{time-permuted, time-sorted, time-once, carrier-once, time-count}
 use Rattle.order.proofs.CellOrder.{carrier-count}

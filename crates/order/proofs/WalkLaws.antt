@@ -1,23 +1,22 @@
 -- The walk over a frame's symbols: what it has written before each cell. Assumes nothing.
-use Prim.Native.Nat.{ℕ, zero, suc, _+_, _-_, _*_, _<_, _≤_, _^_}
+use Prim.Native.Nat.{ℕ, zero, suc, _+_, _-_, _*_, _<_, _≤_}
 use mathlib.Core.Path.{_≡_, refl, sym, ap, ap₂, _∙_}
 use mathlib.Core.Logic.{⊎-elim}
-use mathlib.Core.Bool.{Bool, true, false, not, cond}
+use mathlib.Core.Bool.{Bool, true, false, cond}
 use mathlib.Core.List.{List, [], _∷_, _++_, map, map-append, append-assoc, append-nil}
-use native.Mathlib.Nat.{eq-or-lt-of-le, le-of-suc-le-suc, zero-mul}
+use native.Mathlib.Nat.{eq-or-lt-of-le, le-of-suc-le-suc}
 use native.Mathlib.Numerals.{add-one}
 use native.Mathlib.Omega.{arith}
 use borrow.Author.Tests.{eqb-true, eqb-false, lt-ltb, le-ltb, ltb-true, ltb-false}
 use lib.Dec.{eqb, ltb}
 use lib.ListN.{length, getD, drop, set, length-append, length-map, length-set, drop-of-length-le}
 use lib.Seq.{drop-cons, set-at, getD-set-same, getD-set-other}
-use Rattle.complex.specs.Lists.{filled}
 use Rattle.complex.specs.ListLaws.{filled-at, filled-length}
 use Rattle.level.specs.declared.Layout.{Layout}
 use Rattle.level.specs.Lengths.{cells}
 use Rattle.level.specs.Sized.{Sized}
-use Rattle.dat.specs.Cells.{Cell, cellAt, symbolsWhere}
-use Rattle.dat.specs.Counts.{one, count-step, count-both}
+use Rattle.cells.specs.Cells.{Cell, cellAt, symbolsWhere}
+use Rattle.cells.specs.Counts.{one, count-step, count-both}
 use Rattle.dat.specs.Tables.{marked}
 use Rattle.dat.specs.Accepted.{Markers}
 use Rattle.dat.specs.AcceptedLaws.{rows-small}

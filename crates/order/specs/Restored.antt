@@ -8,7 +8,7 @@ use Rattle.complex.specs.Lists.{tabulate}
 use Rattle.level.specs.declared.Layout.{Layout}
 use Rattle.level.specs.Rows.{IsLayout}
 use Rattle.dat.specs.Tables.{MarkersAccepted}
-use Rattle.dat.specs.Cells.{Cell, cellAt}
+use Rattle.cells.specs.Cells.{Cell, cellAt}
 use Rattle.order.specs.TimeCells.{timeCells, carrierCells}
 use Rattle.order.specs.SoftOrder.{byTime, byCarrier}
 

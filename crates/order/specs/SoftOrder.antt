@@ -13,7 +13,7 @@ use Rattle.refusal.specs.Outcome.{Outcome, answered, andThen, done, after, firs
 use Rattle.complex.specs.Lists.{tabulate}
 use Rattle.level.specs.declared.Layout.{Layout}
 use Rattle.dat.specs.Tables.{markerFault}
-use Rattle.dat.specs.Cells.{Cell, cellAt}
+use Rattle.cells.specs.Cells.{Cell, cellAt}
 use Rattle.order.specs.declared.Order.{Order}
 use Rattle.order.specs.declared.Order.the-variants.{Time, Carrier}
 use Rattle.order.specs.TimeCells.{timeCells, carrierCells, placeIn}

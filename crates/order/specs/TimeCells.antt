@@ -5,7 +5,7 @@ use mathlib.Core.List.{List, [], _∷_, _++_}
 use lib.Dec.{eqb}
 use Rattle.level.specs.declared.Layout.{Layout}
 use Rattle.dat.specs.Tables.{marked}
-use Rattle.dat.specs.Cells.{Cell, cellAt, byCarrier, cellsOf}
+use Rattle.cells.specs.Cells.{Cell, cellAt, byCarrier, cellsOf}
 
 -- symbol s of the first n carriers, where f holds of carrier and symbol
 unfoldable pub symbolCells : (ℕ → ℕ → Bool) → ℕ → ℕ → List Cell

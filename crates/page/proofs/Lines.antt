@@ -1,16 +1,17 @@
 -- The bytes of a line by the column that they stand in, and those of the page by line. Assumes nothing.
 use Prim.Native.Nat.{ℕ, zero, suc, _+_, _-_, _/_, _%_, _≤_, _<_}
-use mathlib.Core.Path.{_≡_, refl, sym}
-use mathlib.Core.Bool.{Bool, true, false, cond}
+use mathlib.Core.Path.{_≡_, refl}
+use mathlib.Core.Bool.{cond}
 use mathlib.Core.Logic.{⊎-elim}
 use native.Mathlib.Nat.{eq-or-lt-of-le, le-of-suc-le-suc}
 use native.Mathlib.Omega.{arith}
 use lib.Dec.{T, leb, ltb, eqb}
 use lib.ListN.{getD}
+use lib.Ieee.Bits.{is-true}
 use borrow.Author.Tests.{eqb-true, lt-ltb, le-ltb, le-leb, lt-leb, eq-eqb, ne-eqb}
 use Rattle.refusal.specs.Outcome.{answered}
 use Rattle.level.specs.declared.Layout.{Layout}
-use Rattle.level.specs.Layout.{layoutOf, chosen, stagger, greatestStagger}
+use Rattle.level.specs.Layout.{layoutOf, chosen}
 use Rattle.level.specs.Level.{levelOf}
 use Rattle.level.specs.Tested.{below, below-at}
 use Rattle.page.specs.Page.{digitAt, column, lineOf, lineByte, linesOf, page, rowAt, bandwidthAt, recordAt}
@@ -104,10 +105,6 @@ module _ (l : Layout) where
       rw e refl
 
 -- ---- the lines' bandwidths and records
-pub is-true : (b : Bool) → T b → b ≡ true
-is-true true t = refl
-is-true false t = absurd t
-
 pub test-eq : (f g : ℕ → ℕ) (n : ℕ) → T (below (λ i. eqb (f i) (g i)) n) → (i : ℕ) → i < n → f i ≡ g i
 test-eq f g n t i h = eqb-true (f i) (g i) (is-true (eqb (f i) (g i)) (below-at (λ i. eqb (f i) (g i)) n t i h))
 

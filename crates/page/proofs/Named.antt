@@ -1,11 +1,12 @@
 -- The page names each layout once, and its columns show every number whole. Assumes nothing.
-use Prim.Native.Nat.{ℕ, zero, suc, _+_, _*_, _<_}
-use mathlib.Core.Path.{_≡_, refl, sym, ap, _∙_}
-use mathlib.Core.Bool.{Bool, true, false, not, cond, _&&_, _||_}
+use Prim.Native.Nat.{ℕ, _+_, _*_, _<_}
+use mathlib.Core.Path.{_≡_, refl, sym, _∙_}
+use mathlib.Core.Bool.{Bool, true, false, not, cond, _&&_}
 use mathlib.Core.List.{List, [], _∷_}
 use native.Mathlib.Omega.{arith}
-use lib.Dec.{T, eqb, leb}
+use lib.Dec.{T, eqb}
 use lib.ListN.{length, getD}
+use lib.Ieee.Bits.{is-true}
 use borrow.Author.Tests.{eqb-true}
 use Rattle.refusal.specs.declared.Refusal.the-variants as no
 use Rattle.refusal.specs.Outcome.{Outcome, refused, answered, andThen, firstFault, judged}
@@ -15,7 +16,7 @@ use Rattle.level.specs.Layout.{layoutOf, chosen}
 use Rattle.level.specs.Tested.{and-left, and-right, every, below-at}
 use Rattle.page.specs.Page.{page, linesOf, lineOf, column, digitAt, rowAt}
 use Rattle.page.specs.Names.{linesIn, shownAt, Shows, naming, onceIf, before, LayoutPage}
-use Rattle.page.proofs.Lines.{is-true, test-eq, all-below}
+use Rattle.page.proofs.Lines.{test-eq, all-below}
 
 -- ---- rows of the table
 -- whether a row has this bandwidth and this record

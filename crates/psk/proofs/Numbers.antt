@@ -12,11 +12,11 @@ use borrow.Author.Tests.{not-true}
 use Rattle.level.specs.declared.Layout.{Layout}
 use Rattle.level.specs.Lengths.{cells}
 use Rattle.dat.specs.Tables.{marked}
-use Rattle.dat.specs.Cells.{symbolsWhere, cellsOf, Cell, cellAt}
-use Rattle.dat.specs.Counts.{one, count-step, count-le, cells-count}
+use Rattle.cells.specs.Cells.{symbolsWhere, cellsOf, Cell, cellAt}
+use Rattle.cells.specs.Counts.{one, count-step, count-le, cells-count}
 use Rattle.dat.specs.Accepted.{Markers}
 use Rattle.dat.specs.AcceptedLaws.{row-in}
-use Rattle.dat.specs.CellLaws.{byCarrier-at}
+use Rattle.cells.specs.CellLaws.{byCarrier-at}
 use Rattle.rows.specs.Symbols.{IsCell, cellList, cellsBefore, cellNumber}
 
 -- ---- the symbols of which f holds

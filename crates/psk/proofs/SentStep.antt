@@ -17,8 +17,8 @@ use Rattle.level.specs.declared.Layout.{Layout}
 use Rattle.level.specs.Lengths.{cells, rowLength}
 use Rattle.level.specs.SizedLaws.{sized}
 use Rattle.dat.specs.Tables.{marked}
-use Rattle.dat.specs.Cells.{Cell, cellAt}
-use Rattle.rows.specs.Symbols.{Sending, IsCell, cellList, referencePoint, bitPlace, cellLabel, runningPoint}
+use Rattle.cells.specs.Cells.{Cell, cellAt}
+use Rattle.rows.specs.Symbols.{Sending, cellList, referencePoint, bitPlace, cellLabel, runningPoint}
 use Rattle.psk.specs.Step.{sentStep, stepAt, labelIn, SentStep, SentMark, StepLabel, labelOf, stepOf, FrameSteps}
 use Rattle.psk.proofs.Turn.{Turn, turn-mul, point-turn, cell-step, mark-step}
 use Rattle.psk.proofs.Numbers.{Numbered, entry-numbered}

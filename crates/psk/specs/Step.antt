@@ -14,7 +14,7 @@ use Rattle.constellation.specs.Points.{sameNumber}
 use Rattle.level.specs.declared.Layout.{Layout}
 use Rattle.level.specs.Lengths.{cells}
 use Rattle.dat.specs.Tables.{marked}
-use Rattle.dat.specs.Cells.{Cell, cellAt}
+use Rattle.cells.specs.Cells.{Cell, cellAt}
 use Rattle.rows.specs.Symbols.{Sending, IsCell, cellList, cellLabel, runningPoint}
 use Rattle.rows.specs.Accepted.{Ready}
 

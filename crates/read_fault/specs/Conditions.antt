@@ -9,8 +9,8 @@ use Rattle.refusal.specs.Any.{any}
 use Rattle.complex.specs.Arithmetic.{fzero}
 use Rattle.laws.specs.Tests.{inRange}
 use Rattle.level.specs.declared.Layout.{Layout}
-use Rattle.search.specs.Search.{reach}
-use Rattle.symbols.specs.Symbols.{driftLength}
+use Rattle.positions.specs.Positions.{reach}
+use Rattle.positions.specs.Positions.{driftLength}
 use Rattle.state.specs.declared.State.{State}
 use Rattle.state.specs.Conditions.{spanEnd}
 use Rattle.feed_fault.specs.Conditions.{one}

@@ -88,7 +88,7 @@ pub fn wrong_drift(l: Layout, drift: &[f64]) -> bool
     if drift.len() == 0 {
         return false;
     }
-    if drift.len() != 2 * (l.nc * drift::drift_length(l)) {
+    if drift.len() != 2 * (l.nc * positions::drift_length(l)) {
         return true;
     }
     outside_one(drift)

@@ -1,7 +1,7 @@
 -- A reading that meets none of rows 1 to 23. Assumes nothing.
 -- The frame found, its symbols, and what is decoded of them.
 use Prim.Native.Nat.{ℕ, _+_, _≤_}
-use mathlib.Core.Path.{_≡_, sym, ap, ap₂, _∙_, subst}
+use mathlib.Core.Path.{_≡_, sym, ap, _∙_, subst}
 use mathlib.Core.List.{List}
 use native.Mathlib.Omega.{arith}
 use lib.ListN.{length}
@@ -10,7 +10,7 @@ use Rattle.complex.specs.declared.Complex.{Complex}
 use Rattle.complex.specs.Pairs.{pairs, parts}
 use Rattle.complex.specs.PairLaws.{pairs-parts}
 use Rattle.level.specs.declared.Layout.{Layout}
-use Rattle.search.specs.Chi.{Tables}
+use Rattle.offers.specs.Chi.{Tables}
 use Rattle.symbols.specs.Symbols.{symbolsAt}
 use Rattle.symbols.specs.Standing.{samplesIn, filteredIn}
 use Rattle.locate.specs.declared.Located.{Located}

@@ -1,8 +1,8 @@
 -- What is left of the conditions of `locate` and `read` where none is met. Assumes nothing.
 -- And that the leaves find what they ask for.
-use Prim.Native.Nat.{ℕ, _+_, _-_, _*_, _^_, _≤_, _<_}
-use mathlib.Core.Path.{_≡_, sym, ap, _∙_}
-use mathlib.Core.Bool.{Bool, false, not, _&&_}
+use Prim.Native.Nat.{ℕ, _+_, _-_, _*_, _≤_}
+use mathlib.Core.Path.{_≡_, sym, _∙_}
+use mathlib.Core.Bool.{false, not}
 use mathlib.Core.List.{List}
 use native.Mathlib.Omega.{arith}
 use lib.Dec.{eqb, ltb}
@@ -21,10 +21,10 @@ use Rattle.level.specs.SizedLaws.{sized}
 use Rattle.dat.specs.Tables.{tableFault}
 use Rattle.dat.specs.Accepted.{Markers, Phasors}
 use Rattle.dat.specs.AcceptedLaws.{tables-of}
-use Rattle.search.specs.Chi.{Tables}
-use Rattle.search.specs.Search.{reach}
-use Rattle.search.specs.Fits.{Within}
-use Rattle.symbols.specs.Symbols.{driftLength}
+use Rattle.offers.specs.Chi.{Tables}
+use Rattle.positions.specs.Positions.{reach}
+use Rattle.positions.specs.Positions.{Within}
+use Rattle.positions.specs.Positions.{driftLength}
 use Rattle.symbols.specs.Standing.{SymbolsFit}
 use Rattle.locate.specs.Fits.{LocateFits}
 use Rattle.state.specs.declared.State.{State}

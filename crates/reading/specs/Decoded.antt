@@ -6,7 +6,7 @@ use lib.Ieee.{Float}
 use Rattle.refusal.specs.Outcome.{Outcome, answered, andThen, after, judged}
 use Rattle.complex.specs.declared.Complex.{Complex}
 use Rattle.level.specs.declared.Layout.{Layout}
-use Rattle.search.specs.Chi.{Tables}
+use Rattle.offers.specs.Chi.{Tables}
 use Rattle.locate.specs.declared.Located.{Located}
 use Rattle.decode.specs.Steps.{gainOf, scratchOf}
 use Rattle.decode.specs.SoftBits.{softBits}

@@ -8,7 +8,7 @@ use Rattle.level.specs.declared.Layout.{Layout}
 use Rattle.level.specs.Rows.{IsLayout}
 use Rattle.track.specs.Track.{valueAt}
 use Rattle.track.specs.Memory.{samplesPart, filteredPart, trackIn}
-use Rattle.search.specs.Chi.{Tables}
+use Rattle.offers.specs.Chi.{Tables}
 use Rattle.search.specs.Fits.{stepsIn, powersIn}
 use Rattle.symbols.specs.Symbols.{symbolsAt}
 use Rattle.symbols.specs.Standing.{samplesIn, filteredIn}

@@ -18,9 +18,9 @@ use Rattle.level.specs.Layout.{stagger}
 use Rattle.level.specs.Rows.{IsLayout}
 use Rattle.level.specs.Sized.{Sized}
 use Rattle.level.specs.SizedLaws.{sized, stagger-within}
-use Rattle.dat.specs.Cells.{phasor}
-use Rattle.search.specs.Chi.{Tables}
-use Rattle.search.specs.Search.{reach}
+use Rattle.cells.specs.Cells.{phasor}
+use Rattle.offers.specs.Chi.{Tables}
+use Rattle.positions.specs.Positions.{reach}
 use Rattle.symbols.specs.Symbols.{filteredSymbol, driftSymbol, symbolAt, symbolsAt}
 use Rattle.locate.specs.declared.Located.{Located}
 use Rattle.locate.specs.Locate.{chiIn, bestAround}

@@ -14,7 +14,7 @@ use Rattle.complex.specs.declared.Complex.{Complex}
 use Rattle.level.specs.declared.Layout.{Layout}
 use Rattle.level.specs.Layout.{chosen}
 use Rattle.dat.specs.Tables.{tableFault}
-use Rattle.search.specs.Chi.{Tables}
+use Rattle.offers.specs.Chi.{Tables}
 use Rattle.locate.specs.declared.Located.{Located}
 use Rattle.decode.specs.Steps.{undivided, divided, gainOf, scratchOf}
 use Rattle.decode.specs.SoftBits.{softBits}

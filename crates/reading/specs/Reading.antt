@@ -4,7 +4,7 @@ use mathlib.Core.List.{List}
 use lib.Ieee.{Float}
 use Rattle.complex.specs.declared.Complex.{Complex}
 use Rattle.level.specs.declared.Layout.{Layout}
-use Rattle.search.specs.Chi.{Tables}
+use Rattle.offers.specs.Chi.{Tables}
 use Rattle.symbols.specs.Symbols.{symbolsAt}
 use Rattle.locate.specs.declared.Located.{Located}
 use Rattle.locate.specs.Locate.{bestAround}

@@ -3,9 +3,9 @@ use hold::Block;
 use hold::Candidate;
 use hold::Held;
 use hold::Hold;
-use hold::LoneAnswer;
 use level::Chosen;
 use libc::STDOUT_FILENO;
+use lone::LoneAnswer;
 use meter::Metered;
 use refusal::Answer;
 use refusal::Place;
@@ -115,7 +115,7 @@ fn try_offer(hold: u64, position: u64, metric: f64) {
         block: Block::First,
         best: Held::Empty,
     };
-    let r = hold::lone_offer(h, Position(position), Candidate::Metric(metric));
+    let r = lone::lone_offer(h, Position(position), Candidate::Metric(metric));
     let answer = r.answer;
     match answer {
         LoneAnswer::Answered(_) => show(0),

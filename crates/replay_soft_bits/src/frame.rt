@@ -5,7 +5,7 @@ ghost use Prim.Native.Nat.{_*_, _^_, _<_, _≤_};
 ghost use lib.ListN.{length};
 ghost use Rattle.level.specs.Rows.{IsLayout};
 ghost use Rattle.dat.specs.Accepted.{Phasors};
-ghost use Rattle.symbols.specs.Symbols.{driftLength};
+ghost use Rattle.positions.specs.Positions.{driftLength};
 use complex::Complex;
 use level::Layout;
 use reading_shown::change;

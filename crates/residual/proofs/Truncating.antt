@@ -1,15 +1,16 @@
 -- A part times 2^20, truncated: its sign and its size. Assumes nothing.
-use Prim.Native.Nat.{ℕ, zero, suc, _+_, _-_, _*_, _/_, _^_, _<_, _≤_, min}
-use mathlib.Core.Path.{_≡_, refl, sym, ap, _∙_}
+use Prim.Native.Nat.{ℕ, _+_, _-_, _*_, _/_, _^_, _<_, _≤_, min}
+use mathlib.Core.Path.{_≡_, sym, ap, _∙_}
 use mathlib.Core.Bool.{true, false, true≢false}
-use native.Mathlib.Nat.{mul-pos, zero-mul, mul-comm, zero-div, div-le-of-le-mul}
+use native.Mathlib.Nat.{mul-comm, zero-div, div-le-of-le-mul}
 use native.Mathlib.Omega.{arith}
 use lib.Dec.{T, ltb, lt→ltb}
 use lib.IntN.{ℤ, pos, negℤ}
 use lib.Ieee.{Float, nan, inf, fin, binary64, ofBits, up, down, lt, neg, mul, toUnsigned, toSigned}
 use lib.Ieee.Fits.{down-pos}
-use borrow.Author.Tests.{le-ltb, ltb-false}
+use borrow.Author.Tests.{ltb-false}
 use Rattle.complex.specs.Arithmetic.{fzero}
+use Rattle.laws.specs.Order.{zero-factor, none-below}
 use Rattle.laws.specs.Tests.{inSize}
 use Rattle.laws.specs.Floats.{Within}
 use Rattle.laws.specs.Size.{mul-within}
@@ -33,22 +34,14 @@ scaled-within x h =
 quotient : (m e : ℕ) → m ≤ 2 ^ 26 * e → m / e ≤ 2 ^ 26
 quotient m e h = div-le-of-le-mul e (rw (mul-comm e (2 ^ 26)) h)
 
--- a factor of a product that is zero
-zero-of : (a b : ℕ) → 0 < b → a * b ≤ 0 → a ≡ 0
-zero-of zero b P h = refl
-zero-of (suc a) b P h = absurd (omega (arith, mul-pos {m = suc a} {n = b} (omega arith) P))
-
 -- only what has a minus is below zero
-none-below : (a b : ℕ) → ltb a (0 * b) ≡ false
-none-below a b = le-ltb a (0 * b) (let z : 0 * b ≡ 0 = zero-mul b in omega arith)
-
 not-below : (m : ℕ) (e : ℤ) → lt (fin false m e) fzero ≡ false
 unfolding lt ofBits
 not-below m e = none-below (m * up e * 1) (down e)
 
 -- and what has one and isn't below zero is zero
 zero-sum : (a b c : ℕ) → 0 < b → ltb 0 (a * b + c) ≡ false → a ≡ 0
-zero-sum a b c P h = zero-of a b P (omega (arith, ltb-false 0 (a * b + c) h))
+zero-sum a b c P h = zero-factor a b P (omega (arith, ltb-false 0 (a * b + c) h))
 
 is-zero : (m : ℕ) (e : ℤ) → lt (fin true m e) fzero ≡ false → m * up e ≡ 0
 unfolding lt ofBits

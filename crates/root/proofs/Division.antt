@@ -8,9 +8,6 @@ use lib.Dec.{lit≤}
 use Rattle.root.specs.Squares.{next-square, square-mono}
 use Rattle.root.specs.WholeRoot.{RootRem}
 
-abbrev pub numOf : ℕ → ℕ → ℕ → ℕ
-numOf rem s hi = rem * s + hi
-
 -- the quotient, what is left over with the last digit, the new root, and the number whose root it is
 abbrev pub quo : ℕ → ℕ → ℕ → ℕ → ℕ
 quo a rem s hi = (rem * s + hi) / (a * 2)

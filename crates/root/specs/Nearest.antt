@@ -1,11 +1,10 @@
 -- The root of x lies on √x's side of the number half way to any other value of the format. Assumes nothing.
--- So (`root-no-less`) a value whose square is at most x is at most √x. In units of 2 ^ -1074, the least value above
--- zero, of which squares are compared as whole numbers.
+-- In units of 2 ^ -1074, the least value above zero, of which squares are compared as whole numbers.
 use mathlib.Core.Path.{_≡_, refl, sym, ap, _∙_, subst}
 use mathlib.Core.Logic.{_⊎_, inl, inr, ⊎-elim}
 use native.Mathlib.Decide.{decLe}
 use Prim.Native.Nat.{ℕ, zero, suc, _+_, _-_, _*_, _/_, _%_, _^_, _≤_, _<_}
-use native.Mathlib.Nat.{le-trans, le-add-right, le-of-eq, le-of-lt, le-of-suc-le-suc, lt-of-lt-of-le, lt-of-le-of-lt}
+use native.Mathlib.Nat.{le-trans, le-add-right, le-of-eq, le-of-lt, lt-of-lt-of-le, lt-of-le-of-lt}
 use native.Mathlib.Nat.{lt-of-not-le, not-le-of-lt, mul-comm, mul-assoc, mul-left-comm, pow-succ', add-mul}
 use native.Mathlib.Nat.{mul-le-mul-left, mul-le-mul-right, le-of-mul-le-mul-right, lt-of-mul-lt-mul-right}
 use native.Mathlib.Nat.{eq-of-mul-eq-mul-right, mul-mul-mul-comm, two-mul, eq-or-lt-of-le}
@@ -14,11 +13,10 @@ use native.Mathlib.Omega.{arith}
 use mathlib.Core.Bool.{false}
 use lib.Dec.{T}
 use lib.Pow.{pow-add, pow-pos, pow-mono, shl-lt}
-use lib.Ieee.{Float, nan, inf, fin, binary64, fits, le, down}
+use lib.Ieee.{Float, nan, inf, fin, binary64, fits, down}
 use lib.Ieee.Fits.{down-pos}
 use lib.Ieee.Digits.{back}
 use lib.Ieee.Exact.{HasValue}
-use lib.Ieee.Order.{le-of-values}
 use lib.Ieee.Positive.{positive}
 use Rattle.laws.specs.Floats.{plain}
 use Rattle.laws.specs.Rounding.{in-units}
@@ -208,18 +206,3 @@ half-way x z n y u F p G q vx vy vz =
       above-all w (R .r) (R .k) (Z .m) (Z .j) (R .full) (Z .few) (R .under),
       λ h. below-strict x R U h (below-all w (R .r) (R .k) (Z .m) (Z .j) (R .full) (Z .few) (R .from) (R .least) h),
     )))
-
--- ---- a value whose square is at most x is at most √x
-sum-under : (y u w : ℕ) → y < u → u * u ≤ w → 4 * w < (y + u) * (y + u) → ⊥
-sum-under y u w h s l = not-le-of-lt l (le-trans (square-mono (y + u) (2 * u) (omega arith))
-    (le-trans (le-of-eq (double-square u)) (mul-le-mul-left 4 s)))
-
-pub root-no-less : (x z : Float) (n u : ℕ) → T (fits binary64 x) → T (positive x) → T (fits binary64 z) → T (plain z)
-    → HasValue x false n (2 ^ 1074) → HasValue z false u (2 ^ 1074) → u * u ≤ n * 2 ^ 1074 → T (le z (sqrtOf x))
-root-no-less x z n u F p G q vx vz h =
-    let R = rooted x F p in
-    let y = R .r * 2 ^ R .k in
-    let N = half-way x z n y u F p G q vx (R .root) vz in
-    let l : u ≤ y = le-of-suc-le-suc (lt-of-not-le (λ (g : suc y ≤ u). sum-under y u (n * 2 ^ 1074) g h (N .0 g))) in
-    le-of-values z (sqrtOf x) u (2 ^ 1074) y (2 ^ 1074) (pow-pos 1074) (pow-pos 1074) vz (R .root)
-    (mul-le-mul-right (2 ^ 1074) l)

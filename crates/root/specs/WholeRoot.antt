@@ -16,14 +16,6 @@ pub record Rounded (n r : ℕ) : Type 0 where
   pub below : r * r < n + r
   pub above : n ≤ r * r + r
 
--- g is that number, or 0
-abbrev pub RoundedOr0 : ℕ → ℕ → Type 0
-RoundedOr0 n g = (g ≡ 0 → ⊥) → Rounded n g
-
--- the same of n = r * r − 3 * r + w
-abbrev pub Judged : (r w g : ℕ) → Type 0
-Judged r w g = (n : ℕ) → r * r + w ≡ n + 3 * r → RoundedOr0 n g
-
 -- two more digits in base `scale`, of a number with that root and remainder
 abbrev pub extended : (root rem scale high low : ℕ) → ℕ
 extended root rem scale high low = (root * root + rem) * (scale * scale) + (high * scale + low)

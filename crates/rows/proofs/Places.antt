@@ -15,8 +15,8 @@ use Rattle.level.specs.Rows.{IsLayout}
 use Rattle.level.specs.Sized.{Sized}
 use Rattle.level.specs.SizedLaws.{sized, row-most}
 use Rattle.dat.specs.Tables.{marked}
-use Rattle.dat.specs.Cells.{cellsOf}
-use Rattle.dat.specs.Counts.{one, count-next, count-le, cells-count}
+use Rattle.cells.specs.Cells.{cellsOf}
+use Rattle.cells.specs.Counts.{one, count-next, count-le, cells-count}
 use Rattle.dat.specs.Accepted.{Markers}
 use Rattle.dat.specs.AcceptedLaws.{rows-small, row-in}
 use Rattle.rows.specs.Symbols.{Sending, cellsBefore, cellNumber, bitPlace}

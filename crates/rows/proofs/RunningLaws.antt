@@ -1,7 +1,7 @@
 -- The state of the loop over a frame's symbols is that of 01's running point. Assumes nothing.
 use Prim.Native.Nat.{ℕ, suc, _+_, _-_, _*_}
 use mathlib.Core.Path.{_≡_, refl, ap, _∙_}
-use mathlib.Core.Bool.{Bool, true, false, not, cond}
+use mathlib.Core.Bool.{Bool, true, false, not}
 use mathlib.Core.List.{List}
 use native.Mathlib.Numerals.{add-one}
 use native.Mathlib.Omega.{arith}
@@ -12,8 +12,8 @@ use Rattle.constellation.specs.Label.{labelAt}
 use Rattle.level.specs.declared.Layout.{Layout}
 use Rattle.level.specs.Lengths.{cells}
 use Rattle.dat.specs.Tables.{marked}
-use Rattle.dat.specs.Cells.{symbolsWhere}
-use Rattle.dat.specs.Counts.{one, count-step}
+use Rattle.cells.specs.Cells.{symbolsWhere}
+use Rattle.cells.specs.Counts.{one, count-step}
 use Rattle.rows.specs.declared.Running.{Running}
 use Rattle.rows.specs.Symbols.{cellsBefore, cellNumber, bitPlace, cellLabel, runningPoint}
 use Rattle.rows.specs.Running.{runningAt, startOf, advanced}

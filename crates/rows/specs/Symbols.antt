@@ -15,7 +15,7 @@ use Rattle.constellation.specs.Label.{labelAt}
 use Rattle.level.specs.declared.Layout.{Layout}
 use Rattle.level.specs.Lengths.{cells, rowLength}
 use Rattle.dat.specs.Tables.{marked}
-use Rattle.dat.specs.Cells.{symbolsWhere, cellsOf, Cell, byCarrier, phasor}
+use Rattle.cells.specs.Cells.{symbolsWhere, cellsOf, Cell, byCarrier, phasor}
 
 -- what the sender takes beside the layout: the tables, the count of frames, the payload's bytes and the draws
 pub record Sending : Type 0 where

@@ -11,11 +11,12 @@ use lib.Pow.{pow-mono}
 use lib.Ieee.{Float, inf, lt, le}
 use Rattle.refusal.specs.declared.Refusal.the-variants.{AlphabetSize, StepSize}
 use Rattle.refusal.specs.Clear.{clear-first}
-use Rattle.laws.specs.Order.{clash, lt-trans, not-lt-le}
+use Rattle.laws.specs.Order.{clash, lt-irreflexive, lt-trans, not-lt-le}
+use Rattle.laws.specs.Plain.{plain-number}
 use Rattle.laws.specs.Floats.{plain}
 use Rattle.demap.specs.Nearest.{distSqr, pointAt, nearest}
-use Rattle.demap.specs.NearestLaws.{dist-plain, plain-number, plain-below-inf}
-use Rattle.demap.specs.SoftLaws.{lt-irreflexive, nearest-is}
+use Rattle.demap.specs.NearestLaws.{dist-plain, plain-below-inf}
+use Rattle.demap.specs.SoftLaws.{nearest-is}
 use Rattle.alphabets.specs.Alphabets.{bitsOf, points}
 use Rattle.alphabets.specs.AlphabetLaws.{points-within, bits-known}
 use Rattle.softstep.specs.Step.{wrongStep}

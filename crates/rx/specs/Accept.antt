@@ -24,8 +24,8 @@ use Rattle.filter.specs.Filtered.{filteredAfter, stepsAfter, powersAfter, Filte
 use Rattle.hold.specs.declared.Offered.{Offered}
 use Rattle.hold.specs.declared.Release.the-variants.{NoRelease}
 use Rattle.hold.specs.Releases.{holdAfter, releases}
-use Rattle.search.specs.Chi.{Tables}
-use Rattle.search.specs.Search.{offersFrom}
+use Rattle.offers.specs.Chi.{Tables}
+use Rattle.offers.specs.Search.{offersFrom}
 use Rattle.search.specs.Fits.{offersIn, lastReleased, Searched}
 use Rattle.search.specs.Offers.{offers-ext}
 use Rattle.hold.specs.declared.Hold.{Hold}

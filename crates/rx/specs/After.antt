@@ -29,7 +29,8 @@ use Rattle.hold.specs.Offer.{atLeast, due, greater, taken, keeping, releasing, 
 use Rattle.hold.specs.History.{Offer}
 use Rattle.hold.specs.Releases.{offeredIn, holdAfter}
 use Rattle.hold.specs.ReleasesLaws.{holdAfter-append}
-use Rattle.search.specs.Search.{reach, offerOf, offersFrom}
+use Rattle.offers.specs.Search.{offerOf, offersFrom}
+use Rattle.positions.specs.Positions.{reach}
 use Rattle.state.specs.declared.SearchPlace.{SearchPlace}
 use Rattle.state.specs.declared.SearchPlace.the-variants.{Fresh, At}
 use Rattle.state.specs.declared.State.{State}

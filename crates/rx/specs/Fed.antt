@@ -18,8 +18,8 @@ use Rattle.filter.specs.declared.Spans.{Spans}
 use Rattle.hold.specs.declared.Offered.{Offered}
 use Rattle.hold.specs.declared.Release.{Release}
 use Rattle.hold.specs.Releases.{released}
-use Rattle.search.specs.Chi.{Tables}
-use Rattle.search.specs.Search.{searchCount}
+use Rattle.offers.specs.Chi.{Tables}
+use Rattle.positions.specs.Positions.{searchCount}
 use Rattle.dat.specs.Accepted.{Markers, Phasors}
 use Rattle.track.specs.Append.{spanAfter}
 use Rattle.search.specs.Fits.{offersIn, Searched}

@@ -17,10 +17,11 @@ use Rattle.track.specs.WindowLaws.{length-window}
 use Rattle.track.specs.Track.{Track, endOf, trimmedBase, append}
 use Rattle.track.specs.Trims.{Trimmed, trimmed, base-kept}
 use Rattle.track.specs.Memory.{filteredPart, stepPart, powerPart, trackIn}
-use Rattle.filter.specs.Filter.{filteredEnd}
+use Rattle.positions.specs.Positions.{filteredEnd}
 use Rattle.hold.specs.Releases.{holdAfter, releases}
-use Rattle.search.specs.Chi.{chiAt}
-use Rattle.search.specs.Search.{reach, searchCount, offersFrom}
+use Rattle.offers.specs.Chi.{chiAt}
+use Rattle.offers.specs.Search.{offersFrom}
+use Rattle.positions.specs.Positions.{reach, searchCount}
 use Rattle.state.specs.declared.SearchPlace.{SearchPlace}
 use Rattle.state.specs.declared.SearchPlace.the-variants.{Fresh, At}
 use Rattle.state.specs.declared.State.{State}

@@ -3,16 +3,15 @@
 use Prim.Native.Nat.{ℕ, zero, suc, _+_, _-_, _*_, _/_, _≤_, _<_}
 use mathlib.Core.Path.{_≡_, refl}
 use mathlib.Core.Bool.{Bool, true, false, _&&_, cond}
-use mathlib.Core.List.{List, [], _∷_, _++_}
+use mathlib.Core.List.{List, [], _∷_}
 use native.Mathlib.Omega.{arith}
 use native.Mathlib.Nat.{le-trans}
 use lib.ListN.{length}
 use lib.Ieee.{Float}
 use borrow.Author.Tests.{lt-leb}
 use Rattle.complex.specs.ListLaws.{each-append}
-use Rattle.complex.specs.Lists.{Each}
+use Rattle.complex.specs.Lists.{Each, tabulate}
 use Rattle.refusal.specs.declared.Position.{Position}
-use Rattle.complex.specs.Lists.{tabulate}
 use Rattle.level.specs.declared.Layout.{Layout}
 use Rattle.level.specs.Rows.{IsLayout}
 use Rattle.level.specs.RowLaws.{is-layout}
@@ -28,7 +27,8 @@ use Rattle.hold.specs.declared.Hold.{Hold}
 use Rattle.hold.specs.Offer.{blockNumber, atLeast, due, greater, taken, keeping, releasing, offeredAt, offered}
 use Rattle.hold.specs.History.{Offer}
 use Rattle.hold.specs.Releases.{released, releases}
-use Rattle.search.specs.Search.{reach, offerOf, offersFrom}
+use Rattle.offers.specs.Search.{offerOf, offersFrom}
+use Rattle.positions.specs.Positions.{reach}
 use Rattle.state.specs.declared.SearchPlace.{SearchPlace}
 use Rattle.state.specs.declared.SearchPlace.the-variants.{Fresh, At}
 use Rattle.search.specs.Fits.{lastReleased}

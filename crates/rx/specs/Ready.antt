@@ -17,9 +17,10 @@ use Rattle.filter.specs.declared.Spans.{Spans}
 use Rattle.filter.specs.Filtered.{FilterFits}
 use Rattle.hold.specs.declared.Held.{Held}
 use Rattle.hold.specs.declared.Held.the-variants as held
-use Rattle.search.specs.Chi.{Tables}
-use Rattle.search.specs.Search.{reach}
-use Rattle.search.specs.Fits.{HeldBelow, TrackFits, SearchFits}
+use Rattle.offers.specs.Chi.{Tables}
+use Rattle.positions.specs.Positions.{reach}
+use Rattle.offers.specs.Offered.{HeldBelow}
+use Rattle.search.specs.Fits.{TrackFits, SearchFits}
 use Rattle.state.specs.declared.State.{State}
 use Rattle.state.specs.declared.SearchPlace.{SearchPlace}
 use Rattle.state.specs.declared.SearchPlace.the-variants.{Fresh, At}

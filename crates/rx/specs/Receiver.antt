@@ -9,13 +9,15 @@ use Rattle.level.specs.declared.Layout.{Layout}
 use Rattle.track.specs.Window.{window}
 use Rattle.track.specs.Track.{Track, endOf, valueAt, append}
 use Rattle.steps.specs.Steps.{powerOf}
-use Rattle.filter.specs.Filter.{filteredAt, stepAt, filteredEnd}
+use Rattle.filter.specs.Filter.{filteredAt, stepAt}
+use Rattle.positions.specs.Positions.{filteredEnd}
 use Rattle.hold.specs.declared.Hold.{Hold}
 use Rattle.hold.specs.Offer.{freshHold}
 use Rattle.hold.specs.History.{Offer, Detection}
 use Rattle.hold.specs.Releases.{holdAfter, releases}
-use Rattle.search.specs.Chi.{Tables, chiAt}
-use Rattle.search.specs.Search.{searchCount, offersFrom}
+use Rattle.offers.specs.Chi.{Tables, chiAt}
+use Rattle.offers.specs.Search.{offersFrom}
+use Rattle.positions.specs.Positions.{searchCount}
 use Rattle.state.specs.declared.SearchPlace.{SearchPlace}
 use Rattle.state.specs.declared.SearchPlace.the-variants.{Fresh}
 use Rattle.state.specs.Places.{searchFrom, placeAfter}

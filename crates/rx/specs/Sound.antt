@@ -10,12 +10,12 @@ use Rattle.refusal.specs.Clear.{neither}
 use Rattle.level.specs.declared.Layout.{Layout}
 use Rattle.level.specs.Lengths.{memoryLength}
 use Rattle.track.specs.declared.Span.{Span}
-use Rattle.filter.specs.Filter.{filteredEnd}
+use Rattle.positions.specs.Positions.{filteredEnd}
 use Rattle.hold.specs.declared.Held.{Held}
 use Rattle.hold.specs.declared.Held.the-variants as held
 use Rattle.hold.specs.declared.Block.{Block}
 use Rattle.hold.specs.declared.Block.the-variants.{First, From}
-use Rattle.search.specs.Search.{reach, searchCount}
+use Rattle.positions.specs.Positions.{reach, searchCount}
 use Rattle.state.specs.declared.SearchPlace.{SearchPlace}
 use Rattle.state.specs.declared.SearchPlace.the-variants.{Fresh, At}
 use Rattle.state.specs.declared.State.{State}

@@ -17,8 +17,8 @@ use Rattle.chi.specs.declared.Sum.the-variants.{Pilot, Data}
 use Rattle.chi.specs.Table.{perCarrier, Tabled, TableRoom}
 use Rattle.chi.specs.Cells.{kept}
 use Rattle.blocks.specs.Tables.{rows-fit}
-use Rattle.search.specs.Chi.{Tables, chiAt}
-use Rattle.search.specs.Search.{offersFrom}
+use Rattle.offers.specs.Chi.{Tables, chiAt}
+use Rattle.offers.specs.Search.{offersFrom}
 use Rattle.search.specs.Fits.{stepsIn, powersIn, offersIn, Searched, TrackFits, SearchFits}
 use Rattle.search.specs.Flat.{flatMetric, FlatFits, Built}
 use Rattle.search.specs.FlatChi.{chi-is}

@@ -1,59 +1,36 @@
 -- Offers that go on: at one position more, at a block of positions more. Assumes nothing.
-use Prim.Native.Nat.{ℕ, zero, suc, _+_, _-_, _*_, _^_, _<_, _≤_}
-use mathlib.Core.Path.{_≡_, refl, sym, subst, ap, ap₂, _∙_}
+use Prim.Native.Nat.{ℕ, _+_, _-_, _*_, _^_, _≤_}
+use mathlib.Core.Path.{_≡_, refl, sym, ap, ap₂, _∙_}
 use mathlib.Core.List.{List, [], _∷_, _++_, append-nil, append-assoc}
-use native.Mathlib.Nat.{add-zero, add-suc}
-use native.Mathlib.Numerals.{add-one}
 use native.Mathlib.Omega.{arith}
 use lib.ListN.{length, getD, take, replicate, length-take, length-replicate, getD-replicate}
 use lib.Seq.{getD-take}
 use lib.Ieee.{Float, nan}
 use Rattle.complex.specs.Arithmetic.{fzero, cx}
 use Rattle.complex.specs.Lists.{tabulate}
-use Rattle.complex.specs.ListLaws.{tabulate-ext}
-use Rattle.chi.specs.Dot.{dotAt}
+use Rattle.complex.specs.ListLaws.{tabulate-ext, tabulate-join}
+use Rattle.dot.specs.Dot.{dotAt}
 use Rattle.blocks.specs.Planes.{pget, Zeros, Dots, RowsFit}
 use Rattle.hold.specs.declared.Hold.{Hold}
 use Rattle.hold.specs.declared.Release.the-variants.{NoRelease}
 use Rattle.hold.specs.declared.Offered.{Offered}
 use Rattle.hold.specs.History.{Offer}
-use Rattle.search.specs.declared.Counts.{Counts}
-use Rattle.search.specs.Chi.{candidateOf}
-use Rattle.search.specs.Search.{offerOf, offersFrom}
-use Rattle.search.specs.Fits.{offeredNext, Searched, HoldFits}
-use Rattle.search.specs.Flat.{countsOf, chiFrom, flatChi, flatMetric}
-use Rattle.search.specs.Block.{offeredAll, offersBy, BlockFits, BlockRoom}
-use Rattle.search.specs.Offers.{searched-none, searched-next, hold-next}
-
--- offers, and then others
-pub all-append : (s : Offered) (os ps : List Offer) → offeredAll (offeredAll s os) ps ≡ offeredAll s (os ++ ps)
-unfolding offeredAll
-all-append s [] ps = refl
-all-append s (o ∷ os) ps = all-append (offeredNext s o) os ps
+use Rattle.offers.proofs.AllOffers.{all-append, all-none, all-fits}
+use Rattle.offers.specs.declared.Counts.{Counts}
+use Rattle.offers.specs.Search.{offerOf, offersFrom}
+use Rattle.offers.specs.Offered.{offeredNext, HoldFits, offeredAll, offersBy}
+use Rattle.search.specs.Fits.{Searched}
+use Rattle.offers.specs.Counts.{countsOf, chiFrom}
+use Rattle.search.specs.Flat.{flatChi, flatMetric}
+use Rattle.search.specs.Block.{BlockFits, BlockRoom}
+use Rattle.search.specs.Offers.{searched-none, searched-next}
 
 -- before the first
-pub all-none : (s : Offered) (g : ℕ → Offer) → s ≡ offeredAll s (tabulate g 0)
-unfolding offeredAll tabulate
-all-none s g = refl
-
 pub search-none : (s : Offered) (f : ℕ → Float) (lo : ℕ) → s ≡ offeredAll s (offersFrom f lo 0)
 unfolding offersFrom
 search-none s f lo = all-none s _
 
--- one offer more
-pub all-next : (s : Offered) (g : ℕ → Offer) (n : ℕ) → offeredNext (offeredAll s (tabulate g n)) (g n) ≡ offeredAll s (tabulate g (n + 1))
-unfolding offeredAll tabulate
-all-next s g n = rw add-one (all-append s (tabulate g n) (g n ∷ []))
-
 -- the offers of a block more
-tabulate-on : (g : ℕ → Offer) (m n : ℕ) → tabulate g m ++ tabulate (λ k. g (m + k)) n ≡ tabulate g (m + n)
-unfolding tabulate
-tabulate-on g m zero = rw add-zero (append-nil (tabulate g m))
-tabulate-on g m (suc n) =
-    rw add-suc
-    (sym (append-assoc (tabulate g m) (tabulate (λ k. g (m + k)) n) (g (m + n) ∷ []))
-    ∙ ap (λ (os : List Offer). os ++ (g (m + n) ∷ [])) (tabulate-on g m n))
-
 pub search-on : (s t r : Offered) (f : ℕ → Float) (lo m n : ℕ) → t ≡ offeredAll s (offersFrom f lo m) → r ≡ offeredAll t (offersFrom f (lo + 2 * m) n)
     → r ≡ offeredAll s (offersFrom f lo (m + n))
 unfolding offersFrom
@@ -62,21 +39,9 @@ search-on s t r f lo m n a b =
     let e : tabulate (λ i. offerOf (lo + 2 * m + 2 * i) (f (lo + 2 * m + 2 * i))) n ≡ tabulate (λ k. g (m + k)) n =
     tabulate-ext (λ i. offerOf (lo + 2 * m + 2 * i) (f (lo + 2 * m + 2 * i))) (λ k. g (m + k)) n
     (λ k K. let p : lo + 2 * m + 2 * k ≡ lo + 2 * (m + k) = omega arith in ap (λ (q : ℕ). offerOf q (f q)) p) in
-    b ∙ ap₂ offeredAll a e ∙ all-append s (tabulate g m) (tabulate (λ k. g (m + k)) n) ∙ ap (offeredAll s) (tabulate-on g m n)
+    b ∙ ap₂ offeredAll a e ∙ all-append s (tabulate g m) (tabulate (λ k. g (m + k)) n) ∙ ap (offeredAll s) (sym (tabulate-join g m n))
 
 -- the hold's blocks stay small
-pub all-fits : (s : Offered) (x : ℕ → Float) (p n : ℕ) → HoldFits (s .next) → p + 2 * n ≤ 2 ^ 50
-    → HoldFits (offeredAll s (tabulate (λ j. offerOf (p + 2 * j) (x j)) n) .next)
-unfolding offeredAll offeredNext tabulate
-all-fits s x p zero f h = f
-all-fits s x p (suc n) f h =
-    let g : ℕ → Offer = λ j. offerOf (p + 2 * j) (x j) in
-    let t : Offered = offeredAll s (tabulate g n) in
-    let a : HoldFits (t .next) = all-fits s x p n f (omega arith) in
-    let b : p + 2 * n < 2 ^ 50 = omega arith in
-    let d : HoldFits (offeredNext t (g n) .next) = hold-next (t .next) (record { 0 = p + 2 * n }) (candidateOf (x n)) b a in
-    subst (λ (r : Offered). HoldFits (r .next)) (all-append s (tabulate g n) (g n ∷ [])) d
-
 pub search-fits : (s : Offered) (f : ℕ → Float) (lo n : ℕ) → HoldFits (s .next) → lo + 2 * n ≤ 2 ^ 50 → HoldFits (offeredAll s (offersFrom f lo n) .next)
 unfolding offersFrom
 search-fits s f lo n h l = all-fits s (λ j. f (lo + 2 * j)) lo n h l

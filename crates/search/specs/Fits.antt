@@ -12,15 +12,15 @@ use Rattle.track.specs.declared.Span.{Span}
 use Rattle.track.specs.Track.{valueAt}
 use Rattle.track.specs.Memory.{stepPart, powerPart, trackIn}
 use Rattle.hold.specs.declared.Hold.{Hold}
-use Rattle.hold.specs.declared.Held.{Held}
-use Rattle.hold.specs.declared.Held.the-variants.{Empty, At}
 use Rattle.hold.specs.declared.Release.{Release}
 use Rattle.hold.specs.declared.Release.the-variants.{NoRelease, Released}
 use Rattle.hold.specs.declared.Offered.{Offered}
 use Rattle.hold.specs.History.{Offer, Detection}
-use Rattle.hold.specs.Releases.{offeredIn, holdAfter, releases}
-use Rattle.search.specs.Chi.{Tables, chiAt}
-use Rattle.search.specs.Search.{reach, offersFrom}
+use Rattle.hold.specs.Releases.{holdAfter, releases}
+use Rattle.offers.specs.Chi.{Tables, chiAt}
+use Rattle.offers.specs.Search.{offersFrom}
+use Rattle.positions.specs.Positions.{Within}
+use Rattle.offers.specs.Offered.{HoldFits}
 
 -- the steps and the powers of carrier c at position m, of tracks in a memory
 abbrev pub stepsIn : Layout → List Float → Span → ℕ → ℕ → Complex
@@ -33,19 +33,6 @@ powersIn l memory span c m = valueAt (trackIn l memory (powerPart c) span) m
 abbrev pub offersIn : Layout → Tables → List Float → Span → Span → ℕ → ℕ → List Offer
 offersIn l t memory step power lo n = offersFrom (chiAt l t (stepsIn l memory step) (powersIn l memory power)) lo n
 
--- the later of two releases
-abbrev pub latest : Release → Release → Release
-latest a NoRelease = a
-latest a (Released p x) = Released p x
-
--- a search after one offer more
-unfoldable pub offeredNext : Offered → Offer → Offered
-offeredNext s o =
-    record {
-      next = offeredIn (s .next) o .next;
-      release = latest (s .release) (offeredIn (s .next) o .release);
-    }
-
 -- the last of the detections
 unfoldable pub lastReleased : List Detection → Release
 lastReleased [] = NoRelease
@@ -56,21 +43,6 @@ lastReleased (d ∷ e ∷ ds) = lastReleased (e ∷ ds)
 pub record Searched (h : Hold) (os : List Offer) (r : Offered) : Type 0 where
   pub next : r .next ≡ holdAfter h os
   pub release : r .release ≡ lastReleased (releases h os)
-
--- what is held stands below 2^50
-abbrev pub HeldBelow : Held → Type 0
-HeldBelow Empty = Unit {0}
-HeldBelow (At b m) = b .0 < 2 ^ 50
-
--- a hold whose blocks stay small
-pub record HoldFits (h : Hold) : Type 0 where
-  pub dead-small : h .dead < 2 ^ 50
-  pub held-small : HeldBelow (h .best)
-
--- a track holds every cell of a frame at position p
-pub record Within (l : Layout) (span : Span) (p : ℕ) : Type 0 where
-  pub begun : span .base .0 ≤ p
-  pub inside : p + reach l < span .base .0 + span .len
 
 -- a track that fits its part, and holds the frames at n even positions from lo on
 pub record TrackFits (l : Layout) (span : Span) (lo n : ℕ) : Type 0 where

@@ -4,29 +4,20 @@ use mathlib.Core.List.{List}
 use lib.ListN.{length}
 use lib.Ieee.{Float, binary64}
 use lib.Ieee as Ieee
-use Rattle.complex.specs.declared.Complex.{Complex}
 use Rattle.complex.specs.Arithmetic.{normSqr}
 use Rattle.level.specs.declared.Layout.{Layout}
 use Rattle.level.specs.Rows.{IsLayout}
-use Rattle.level.specs.Kept.{whole}
 use Rattle.dat.specs.Accepted.{Markers}
 use Rattle.chi.specs.declared.Sum.the-variants.{Pilot, Data}
 use Rattle.chi.specs.Table.{Tabled}
-use Rattle.chi.specs.Dot.{dotAt}
+use Rattle.dot.specs.Dot.{dotAt}
 use Rattle.blocks.specs.Planes.{RowsFit}
 use Rattle.hold.specs.declared.Hold.{Hold}
-use Rattle.search.specs.declared.Counts.{Counts}
-use Rattle.search.specs.declared.Chi.{Chi}
-use Rattle.search.specs.Chi.{Tables}
-use Rattle.search.specs.Fits.{HoldFits}
-
--- how many marks and kept cells there are, as f64
-abbrev pub countsOf : ℕ → ℕ → Counts
-countsOf marks cells = record { marks = whole marks; cells = whole cells }
-
--- chi from the pilot sum and the data sum: |a|² / marks + |b|² / cells
-abbrev pub chiFrom : Counts → Complex → Complex → Float
-chiFrom n a b = Ieee.add binary64 (Ieee.div binary64 (normSqr a) (n .marks)) (Ieee.div binary64 (normSqr b) (n .cells))
+use Rattle.offers.specs.declared.Counts.{Counts}
+use Rattle.offers.specs.declared.Chi.{Chi}
+use Rattle.offers.specs.Chi.{Tables}
+use Rattle.offers.specs.Counts.{countsOf}
+use Rattle.offers.specs.Offered.{HoldFits}
 
 -- chi and the pilot sum over tables of the marks and of the kept cells, `at` positions past the tracks' base
 unfoldable pub flatChi : List Float → List ℕ → List Float → List ℕ → List Float → Counts → ℕ → Chi

@@ -9,11 +9,13 @@ use Rattle.level.specs.Lengths.{memoryLength}
 use Rattle.track.specs.declared.Span.{Span}
 use Rattle.chi.specs.declared.Sum.the-variants.{Pilot, Data}
 use Rattle.chi.specs.Table.{cellsIn}
-use Rattle.chi.specs.Dot.{dotAt, DotFits}
-use Rattle.search.specs.declared.Chi.{Chi}
-use Rattle.search.specs.Chi.{Tables, allMarks, allKept, pilotSum, dataSum, chiOf, chiAt}
-use Rattle.search.specs.Fits.{stepsIn, powersIn, Within}
-use Rattle.search.specs.Flat.{countsOf, flatChi, Built}
+use Rattle.dot.specs.Dot.{dotAt, DotFits}
+use Rattle.offers.specs.declared.Chi.{Chi}
+use Rattle.offers.specs.Chi.{Tables, allMarks, allKept, pilotSum, dataSum, chiOf, chiAt}
+use Rattle.search.specs.Fits.{stepsIn, powersIn}
+use Rattle.positions.specs.Positions.{Within}
+use Rattle.offers.specs.Counts.{countsOf}
+use Rattle.search.specs.Flat.{flatChi, Built}
 use Rattle.search.specs.TableSum.{same-count, table-fits, table-sum}
 
 module _ (l : Layout) (t : Tables) (marks : List ℕ) (markRefs : List Float) (cells : List ℕ) (cellRefs : List Float)

@@ -16,7 +16,7 @@ use Rattle.level.specs.declared.Layout.{Layout}
 use Rattle.level.specs.Lengths.{memoryLength}
 use Rattle.level.specs.Rows.{IsLayout}
 use Rattle.level.specs.SizedLaws.{stagger-within}
-use Rattle.dat.specs.Cells.{Cell, cellAt}
+use Rattle.cells.specs.Cells.{Cell, cellAt}
 use Rattle.dat.specs.Accepted.{Markers}
 use Rattle.track.specs.declared.Span.{Span}
 use Rattle.track.specs.Track.{valueAt}
@@ -26,9 +26,9 @@ use Rattle.track.specs.Append.{spanEnd}
 use Rattle.chi.specs.declared.Sum.{Sum}
 use Rattle.chi.specs.Table.{cellsIn, partOf, placeOf, referenceFor, referenceIn, Tabled}
 use Rattle.chi.specs.Cells.{cells-in-frame, place-within}
-use Rattle.chi.specs.Dot.{dotTerm, dotAt, DotFits}
-use Rattle.search.specs.Chi.{cellPosition, cellSum}
-use Rattle.search.specs.Fits.{Within}
+use Rattle.dot.specs.Dot.{dotTerm, dotAt, DotFits}
+use Rattle.offers.specs.Chi.{cellPosition, cellSum}
+use Rattle.positions.specs.Positions.{Within}
 
 -- an entry of a list, whatever is said past its end
 default : {A : Type 0} (xs : List A) (k : ℕ) (d e : A) → k < length xs → getD xs k d ≡ getD xs k e

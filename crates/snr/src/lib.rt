@@ -15,7 +15,7 @@ use complex::Complex;
 fn direction(p: Complex) -> Complex
     ensures { λ r. ⌜ r ≡ directionOf p ⌝ }
 {
-    let norm = root::norm(p);
+    let norm = norm::norm(p);
     if norm > 0.0 {
         return complex::unscale(p, norm);
     }
@@ -54,7 +54,7 @@ fn direction_sum(dirs: &[f64], n: usize) -> Complex
 fn phase_turn(s: Complex) -> Complex
     ensures { λ r. ⌜ r ≡ phaseTurn s ⌝ }
 {
-    let norm = root::norm(s);
+    let norm = norm::norm(s);
     if norm == 0.0 {
         return Complex { re: 1.0, im: 0.0 };
     }

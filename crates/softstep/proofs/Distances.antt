@@ -14,7 +14,8 @@ use Rattle.demap.specs.Soft.{leastOf, alternative, softOf, softBit}
 use Rattle.alphabets.specs.Alphabets.{points}
 use Rattle.alphabets.specs.Distances.{distancesFrom, distanceAt}
 use Rattle.alphabets.specs.DistanceLaws.{distance-is, nearest-in}
-use Rattle.softstep.specs.Rows.{Row, leastInRow, weighed, bitIn}
+use Rattle.candidates.specs.Rows.{Row}
+use Rattle.softstep.specs.Weighed.{leastInRow, weighed, bitIn}
 
 least-ext : (d e : ℕ → Float) (n : ℕ) → ((i : ℕ) → i < n → d i ≡ e i) → leastOf d n ≡ leastOf e n
 unfolding leastOf

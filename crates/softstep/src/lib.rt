@@ -7,160 +7,11 @@ ghost use Rattle.demap.specs.Soft.{softBit};
 ghost use Rattle.alphabets.specs.Alphabets.{points};
 ghost use Rattle.alphabets.specs.Distances.{distancesFrom};
 ghost use Rattle.softstep.specs.Step.{SoftStep, wrongStep};
-ghost use Rattle.softstep.specs.Rows.{Row, Rows, leastInRow, weighed, bitIn};
+ghost use Rattle.softstep.specs.Weighed.{leastInRow, weighed, bitIn};
 use complex::Complex;
 use demap::Closest;
 use refusal::Answer;
 use refusal::Refusal;
-
-// The candidates of a label as one number: four labels a bit, the first in the lowest bits, bit 0's before bit 1's.
-// To print it again, sort for each bit the labels of the other bit by the squared distance of their points from the
-// label's, equal ones in index order, and take the first four.
-fn rows8(h: usize) -> u64
-    requires { ⌜ h < 8 ⌝ }
-    ensures { λ r. ⌜ Rows 3 0 3 h r ⌝ }
-{
-    match h {
-        0 => 65932180972,
-        1 => 56119345068,
-        2 => 50660120958,
-        3 => 40847285222,
-        4 => 33509995720,
-        5 => 23696471688,
-        6 => 14479839322,
-        7 => 4666315458,
-        _ => 0,
-    }
-}
-
-fn rows16(h: usize) -> u64
-    requires { ⌜ h < 16 ⌝ }
-    ensures { λ r. ⌜ Rows 4 0 4 h r ⌝ }
-{
-    match h {
-        0 => 8309474960528936924,
-        1 => 7079766863898865613,
-        2 => 5869049382522236414,
-        3 => 4639341286914510559,
-        4 => 9013320473136634076,
-        5 => 7783468340483301325,
-        6 => 6861125271281646334,
-        7 => 5631273139650674399,
-        8 => 6618505825299990356,
-        9 => 5388692174211475269,
-        10 => 8789766266794419574,
-        11 => 7559952615654508119,
-        12 => 17968583505203433556,
-        13 => 16739012846184634181,
-        14 => 15816388304422187638,
-        15 => 14586817645352007255,
-        _ => 0,
-    }
-}
-
-// Of bits 0 to 2 among 32 points.
-fn rows32_high(h: usize) -> u64
-    requires { ⌜ h < 32 ⌝ }
-    ensures { λ r. ⌜ Rows 5 0 3 h r ⌝ }
-{
-    match h {
-        0 => 438683572044878608,
-        1 => 476402354407494416,
-        2 => 256922619274150550,
-        3 => 485446941388198672,
-        4 => 73747313369733652,
-        5 => 108158696036260372,
-        6 => 577097139495815830,
-        7 => 398607574229604884,
-        8 => 159750382473245208,
-        9 => 197469164835336728,
-        10 => 554450182005941150,
-        11 => 188499353306559000,
-        12 => 371274876101524252,
-        13 => 405686258767526684,
-        14 => 874624702227606430,
-        15 => 119674384657447708,
-        16 => 1032613931505455360,
-        17 => 1071458614848655616,
-        18 => 851977780203683974,
-        19 => 1080503201829359872,
-        20 => 667676573318682628,
-        21 => 703213856965793796,
-        22 => 18104894837917830,
-        23 => 993663834670766084,
-        24 => 753680741933821960,
-        25 => 792525425276497928,
-        26 => 1149505342935474574,
-        27 => 783555613747720200,
-        28 => 965204136050473228,
-        29 => 1000741419697060108,
-        30 => 315632457569708430,
-        _ => 714730645098608908,
-    }
-}
-
-// Of bits 3 and 4.
-fn rows32_low(h: usize) -> u64
-    requires { ⌜ h < 32 ⌝ }
-    ensures { λ r. ⌜ Rows 5 3 2 h r ⌝ }
-{
-    match h {
-        0 => 589788032195,
-        1 => 554319289699,
-        2 => 104393737349,
-        3 => 139854877985,
-        4 => 263105776326,
-        5 => 206294944994,
-        6 => 242301802116,
-        7 => 206295044133,
-        8 => 872996081099,
-        9 => 837527354475,
-        10 => 388138673549,
-        11 => 423062942761,
-        12 => 546850712526,
-        13 => 490039881194,
-        14 => 526046738316,
-        15 => 490039456045,
-        16 => 57765894867,
-        17 => 22297534323,
-        18 => 671882561173,
-        19 => 707344750385,
-        20 => 796235909334,
-        21 => 773784817394,
-        22 => 808717931668,
-        23 => 773784916533,
-        24 => 340973435867,
-        25 => 305505599099,
-        26 => 955627497373,
-        27 => 990552815161,
-        28 => 1079980845534,
-        29 => 1057529753594,
-        30 => 1092462867868,
-        _ => 1057529328445,
-    }
-}
-
-fn row32(b: usize, h: usize) -> u64
-    requires { ⌜ (b < 5) × (h < 32) ⌝ }
-    ensures { λ r. ⌜ Row 5 b h r ⌝ }
-{
-    if b < 3 {
-        return rows32_high(h) >> (20 * b);
-    }
-    rows32_low(h) >> (20 * (b - 3))
-}
-
-// The candidates of one bit, its first in the lowest bits.
-fn row(w: usize, b: usize, h: usize) -> u64
-    requires { ⌜ (3 ≤ w) × (w ≤ 5) × (b < w) × (h < 2 ^ w) ⌝ }
-    ensures { λ r. ⌜ Row w b h r ⌝ }
-{
-    match w {
-        3 => rows8(h) >> (12 * b),
-        4 => rows16(h) >> (16 * b),
-        _ => row32(b, h),
-    }
-}
 
 // The least of the distances at a row's four labels. One function a size: a label cut by a constant needs no test.
 fn least8(distances: &[f64], row: u64) -> f64
@@ -224,7 +75,7 @@ fn put_bits(w: usize, distances: &[f64], s: f64, out: &mut [f64])
     let best = alphabets::nearest(distances);
     let mut b: usize = 0;
     while b < w {
-        let four = row(w, b, best.label);
+        let four = candidates::row(w, b, best.label);
         let other = least(w, distances, four);
         out[b] = soft_bit(w, b, best, other, s);
         b += 1;

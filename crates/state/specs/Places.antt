@@ -1,6 +1,6 @@
 -- Where the search goes on (01, "Search and hold"; rx/psk.rs, `step`). Definitions only.
 use Prim.Native.Nat.{ℕ, zero, suc, _+_, _*_, max}
-use Rattle.search.specs.Search.{evenUp}
+use Rattle.positions.specs.Positions.{evenUp}
 use Rattle.state.specs.declared.SearchPlace.{SearchPlace}
 use Rattle.state.specs.declared.SearchPlace.the-variants.{Fresh, At}
 

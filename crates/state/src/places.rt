@@ -2,8 +2,8 @@
 ghost use mathlib.Core.Path.{_≡_};
 ghost use Prim.Native.Nat.{_+_, _*_, _≤_, _^_};
 ghost use Rattle.level.specs.Sized.{Sized};
-ghost use Rattle.filter.specs.Filter.{filteredEnd};
-ghost use Rattle.search.specs.Search.{searchCount};
+ghost use Rattle.positions.specs.Positions.{filteredEnd};
+ghost use Rattle.positions.specs.Positions.{searchCount};
 ghost use Rattle.state.specs.Places.{placeOr, searchFrom, placeAfter};
 ghost use Rattle.state.specs.Near.{NearPlace};
 ghost use Rattle.state.specs.Conditions.{spanEnd};

@@ -18,7 +18,7 @@ fn step_at(memory: &[f64], at: usize, place: usize) -> Complex
     }
     let z = complex::get(memory, at + place);
     let w = complex::get(memory, at + (place - 32));
-    root::unit(complex::mul(z, complex::conj(w)))
+    norm::unit(complex::mul(z, complex::conj(w)))
 }
 
 // Fills out with n steps, from a place on.

@@ -9,11 +9,11 @@ use Rattle.level.specs.declared.Layout.{Layout}
 use Rattle.level.specs.Layout.{stagger}
 use Rattle.level.specs.Rows.{IsLayout}
 use Rattle.dat.specs.Accepted.{Phasors}
-use Rattle.dat.specs.Cells.{phasor}
+use Rattle.cells.specs.Cells.{phasor}
 use Rattle.track.specs.declared.Span.{Span}
 use Rattle.track.specs.Memory.{partLength, filteredPart, trackIn}
 use Rattle.track.specs.Track.{valueAt}
-use Rattle.search.specs.Fits.{Within}
+use Rattle.positions.specs.Positions.{Within}
 pub use Rattle.drift.specs.Rows.{samplesIn}
 use Rattle.drift.specs.Rows.{SamplesFit, DriftRows}
 use Rattle.symbols.specs.Symbols.{filteredSymbol}

@@ -11,7 +11,7 @@ use Rattle.complex.specs.Lists.{tabulate}
 use Rattle.complex.specs.Pairs.{cget}
 use Rattle.complex.specs.Rows.{quotient, remainder}
 use Rattle.level.specs.declared.Layout.{Layout}
-use Rattle.dat.specs.Cells.{phasor}
+use Rattle.cells.specs.Cells.{phasor}
 use Rattle.track.specs.declared.Span.{Span}
 use Rattle.drift.specs.Rows.{samplesIn, driftIth}
 use Rattle.symbols.specs.Symbols.{filteredSymbol, symbolAt, symbolsAt}

@@ -10,8 +10,7 @@ use Rattle.complex.specs.Arithmetic.{cmul}
 use Rattle.complex.specs.Lists.{tabulate}
 use Rattle.level.specs.declared.Layout.{Layout}
 use Rattle.level.specs.Layout.{stagger}
-use Rattle.dat.specs.Cells.{phasor}
-pub use Rattle.drift.specs.Drift.{driftLength}
+use Rattle.cells.specs.Cells.{phasor}
 unfoldable pub use Rattle.drift.specs.Drift.{driftSymbol}
 
 -- where symbol k of carrier c of a frame at p stands

@@ -110,10 +110,6 @@ pub whole-in-float : (n : ℕ) → n ≤ 2 ^ 48 → T (inFloat binary64 (pos n))
 unfolding inFloat
 whole-in-float n h = le→leb n (2 ^ 53) (omega arith)
 
--- "position and metric": the metric that is printed is the one that was offered
-pub whole-back : (n : ℕ) → n ≤ 2 ^ 48 → toUnsigned 64 (wholeMetric n) ≡ n
-whole-back n h = unsigned-back binary64 64 n (whole-in-float n h) (omega arith) .1
-
 pub whole-in-u64 : (m : Float) → Whole m → T (inUnsigned binary64 64 m)
 whole-in-u64 m w = rw (w .is) (unsigned-back binary64 64 (w .value) (whole-in-float (w .value) (w .small)) (omega (arith, w .small)) .0)
 

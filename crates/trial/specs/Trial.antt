@@ -2,7 +2,8 @@
 use mathlib.Core.Bool.{cond, _&&_}
 use mathlib.Core.List.{List, [], _∷_, _++_, map, flatMap}
 use mathlib.Core.Option.{Option, none, some, Option·map, bind}
-use Prim.Native.Nat.{ℕ, _*_}
+use Prim.Native.Nat.{ℕ, _*_, _^_, _≤_}
+use mathlib.Core.Path.{_≡_}
 use lib.Dec.{leb, eqb}
 use lib.ListN.{length}
 use lib.IntN.{pos}
@@ -75,3 +76,9 @@ answer (some t) = report (releases (freshHold (t .hold) (t .dead)) (t .offers))
 -- of any length
 unfoldable pub printed : List ℕ → List ℕ
 printed text = answer (trialOf (map token (words text)))
+
+-- proved as `reads-back`: a number that is printed reads back as that number, and the metric that is printed is the one
+-- that was offered
+pub record ReadsBack : Type 0 where
+  pub decimals : (n : ℕ) → n ≤ 2 ^ 48 → token (decimal n) ≡ number n
+  pub metrics : (n : ℕ) → n ≤ 2 ^ 48 → toUnsigned 64 (wholeMetric n) ≡ n

@@ -14,7 +14,7 @@ use Rattle.complex.specs.SumLaws.{sum-step}
 use Rattle.complex.specs.Pairs.{cget, cset}
 use Rattle.complex.specs.Stored.{storedFrom}
 use Rattle.complex.specs.StoredLaws.{stored-more, stored-join}
-use Rattle.eq.specs.Fill.{Filling, filling-none, filling-stored}
+use Rattle.complex.specs.Filling.{Filling, filling-none, filling-stored}
 use Rattle.fir.specs.Fir.{firAt, tapTerm}
 use Rattle.turned.specs.declared.Four.{Four}
 use Rattle.turned.specs.declared.Eight.{Eight}

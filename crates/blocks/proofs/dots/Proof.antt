@@ -5,7 +5,7 @@ use native.Mathlib.Nat.{zero-mul, suc-mul}
 use native.Mathlib.Numerals.{add-one}
 use native.Mathlib.Omega.{arith}
 use lib.ListN.{length, take, drop, length-take, length-drop}
-use Rattle.chi.specs.Dot.{dotTerm}
+use Rattle.dot.specs.Dot.{dotTerm}
 use Rattle.blocks.specs.Planes.{Added}
 use Rattle.complex.specs.Rows.{row-within}
 use Rattle.blocks.proofs.Laws.{added-none, added-on, added-all, row-is, row-fits, row-term}

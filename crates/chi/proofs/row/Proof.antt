@@ -3,7 +3,7 @@ use Prim.Native.Nat.{ℕ, _*_}
 use mathlib.Core.Path.{sym, ap, _∙_}
 use mathlib.Core.List.{List, map}
 use Rattle.complex.specs.Pairs.{parts}
-use Rattle.dat.specs.Cells.{cellAt}
+use Rattle.cells.specs.Cells.{cellAt}
 use Rattle.chi.specs.Table.{placeOf, referenceFor}
 use Rattle.chi.proofs.Laws.{row-of, row-length}
 use borrow.Author.Needs.{needs}

@@ -7,7 +7,7 @@ use Rattle.level.specs.declared.Layout.{Layout}
 use Rattle.level.specs.Rows.{IsLayout}
 use Rattle.level.specs.Lengths.{cells}
 use Rattle.level.specs.Kept.{keptCells}
-use Rattle.dat.specs.Cells.{cellsOf, thin}
+use Rattle.cells.specs.Cells.{cellsOf, thin}
 use Rattle.chi.specs.declared.Sum.{Sum}
 use Rattle.chi.specs.declared.Sum.the-variants.{Data}
 use Rattle.chi.specs.Table.{symbolsOf, perCarrier}

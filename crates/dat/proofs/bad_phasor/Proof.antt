@@ -3,6 +3,7 @@ use mathlib.Core.Path.{_≡_, refl, sym, ap, _∙_}
 use mathlib.Core.Bool.{Bool, true, false, not, _||_, or-true}
 use lib.Dec.{T}
 use lib.Ieee.{binary64, mul}
+use lib.Ieee.Bits.{is-true}
 use lib.Ieee.Scale.{finite}
 use borrow.Author.Needs.{needs}
 use Rattle.complex.specs.declared.Complex.{Complex}
@@ -14,17 +15,13 @@ use Rattle.dat.specs.Tables.{badPhasor, leastSquare, greatestSquare}
 use Rattle.dat.proofs.bad_phasor.Statement.{statement}
 use Rattle.dat.proofs.bad_phasor.Tie as tie
 
-true-by : (b : Bool) → T b → b ≡ true
-true-by true h = refl
-true-by false h = absurd h
-
 -- the parts of a norm in the range
 parts-finite : (z : Complex) → T (inRange leastSquare greatestSquare (normSqr z)) → (finite (z .re) ≡ true) × (finite (z .im) ≡ true)
 unfolding normSqr lib.Ieee.ofBits
 parts-finite z h =
     let n = in-range-finite leastSquare greatestSquare (normSqr z) tt tt h in
     let s = add-finite binary64 (mul binary64 (z .re) (z .re)) (mul binary64 (z .im) (z .im)) n in
-    (true-by _ (mul-finite binary64 (z .re) (z .re) (s .0) .0), true-by _ (mul-finite binary64 (z .im) (z .im) (s .1) .0))
+    (is-true _ (mul-finite binary64 (z .re) (z .re) (s .0) .0), is-true _ (mul-finite binary64 (z .im) (z .im) (s .1) .0))
 
 by-norm : (z : Complex) (b : Bool) → b ≡ inRange leastSquare greatestSquare (normSqr z) → not b ≡ badPhasor z
 unfolding badPhasor

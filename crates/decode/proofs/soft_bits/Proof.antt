@@ -1,7 +1,6 @@
 -- `decode::soft_bits` meets its contract: the room has all cells of a layout. Assumes nothing.
 use native.Mathlib.Omega.{arith}
-use Rattle.level.specs.SizedLaws.{sized}
-use Rattle.decode.specs.Places.{cells-room}
+use Rattle.level.specs.SizedLaws.{sized, cells-room}
 use borrow.Author.Needs.{needs}
 use Rattle.decode.proofs.soft_bits.Statement.{statement}
 use Rattle.decode.proofs.soft_bits.Tie as tie
@@ -15,17 +14,17 @@ sub-n-2 c = search needs
 mul-n : tie.Need-mul-n
 mul-n c =
     let s = c .before .before .before .before .before .before in
-    omega (arith, cells-room (s .args .l) (s .pre .0 .layout), sized (s .args .l) (s .pre .0 .layout) .cells-most)
+    omega (arith, cells-room (s .args .l) (sized (s .args .l) (s .pre .0 .layout)), sized (s .args .l) (s .pre .0 .layout) .cells-most)
 
 soft-few-requires : tie.Need-soft-few-requires
 soft-few-requires c κs =
     let s = c .before .before .before .before .before .before .before .before in
-    (s .pre .0, s .pre .1, cells-room (s .args .l) (s .pre .0 .layout), c .before .if1 .taken)
+    (s .pre .0, s .pre .1, cells-room (s .args .l) (sized (s .args .l) (s .pre .0 .layout)), c .before .if1 .taken)
 
 soft-all-requires : tie.Need-soft-all-requires
 soft-all-requires c κs =
     let s = c .before .before .before .before .before .before .before .before in
-    let e = cells-room (s .args .l) (s .pre .0 .layout) in
+    let e = cells-room (s .args .l) (sized (s .args .l) (s .pre .0 .layout)) in
     (s .pre .0, s .pre .1, e, omega (arith, e, sized (s .args .l) (s .pre .0 .layout) .cells-most))
 
 same-length : tie.Need-same-length

@@ -6,7 +6,7 @@ use borrow.Author.Needs.{needs}
 use lib.ListN.{length}
 use Rattle.level.specs.SizedLaws.{sized}
 use Rattle.dat.specs.AcceptedLaws.{row-in}
-use Rattle.eq.specs.Fill.{Filling, filling-all}
+use Rattle.complex.specs.Filling.{Filling, filling-all}
 use Rattle.drift.specs.Rows.{driftIth}
 use Rattle.turned.specs.PartLaws.{filling-rows, filling-row}
 use Rattle.drift.proofs.drift_symbols.Statement.{statement}

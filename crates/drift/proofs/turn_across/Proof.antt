@@ -1,8 +1,8 @@
 -- `drift::turn_across` meets its contract: a turn turns one sample more. Assumes nothing.
-use Prim.Native.Nat.{_+_, _-_, _*_, _≤_}
+use Prim.Native.Nat.{_-_, _≤_}
 use mathlib.Core.Path.{_≡_, ap₂, _∙_}
 use Rattle.complex.specs.Arithmetic.{cmul}
-use Rattle.eq.specs.Fill.{Filling, filling-none, filling-more}
+use Rattle.complex.specs.Filling.{Filling, filling-none, filling-more}
 use Rattle.turned.specs.Turned.{turnedBy}
 use Rattle.drift.specs.Rows.{samplesIn}
 use borrow.Author.Needs.{needs}

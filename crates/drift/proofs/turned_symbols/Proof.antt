@@ -6,7 +6,7 @@ use Rattle.complex.specs.Pairs.{cfilled}
 use Rattle.complex.specs.PairLaws.{cfilled-length}
 use Rattle.level.specs.SizedLaws.{sized}
 use Rattle.dat.specs.AcceptedLaws.{row-in, phasor-in}
-use Rattle.drift.specs.Drift.{driftLength}
+use Rattle.positions.specs.Positions.{driftLength}
 use Rattle.turned.specs.Turned.{turnedBy}
 use Rattle.drift.specs.Rows.{samplesIn, driftFrom}
 use Rattle.drift.specs.DriftLaws.{part-few, row-most, rows-small}

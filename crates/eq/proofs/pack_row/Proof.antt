@@ -8,10 +8,9 @@ use lib.Ieee.{Float}
 use Rattle.complex.specs.declared.Complex.{Complex}
 use Rattle.complex.specs.Arithmetic.{cmul, cconj}
 use Rattle.complex.specs.Pairs.{cget}
-use Rattle.eq.specs.Steps.{stepOf}
+use Rattle.eq.specs.Steps.{stepOf, stepsFrom}
 use Rattle.complex.specs.Stored.{storedFrom}
 use Rattle.complex.specs.StoredLaws.{stored-none, stored-more, stored-long, stored-behind}
-use Rattle.eq.specs.Fill.{stepsFrom}
 use Rattle.eq.proofs.pack_row.Statement.{statement}
 use Rattle.eq.proofs.pack_row.Tie as tie
 

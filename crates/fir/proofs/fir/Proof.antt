@@ -1,9 +1,9 @@
 -- `fir::fir` meets its contract: the places passed have their sums. Assumes nothing.
-use Prim.Native.Nat.{_+_, _-_, _≤_}
-use mathlib.Core.Path.{_≡_}
+use Prim.Native.Nat.{_-_, _≤_}
 use native.Mathlib.Omega.{arith}
 use borrow.Author.Needs.{needs}
-use Rattle.fir.proofs.Filling.{Filling, filling-none, filling-four, filling-again, filling-rest}
+use Rattle.complex.specs.Filling.{Filling, filling-none}
+use Rattle.fir.proofs.FillingFour.{filling-four, filling-again, filling-on}
 use Rattle.fir.specs.Fir.{firAt}
 use Rattle.fir.proofs.fir.Statement.{statement}
 use Rattle.fir.proofs.fir.Tie as tie
@@ -48,7 +48,7 @@ same-length c = search needs
 returns : tie.Need-returns Inv-loop μ-loop
 returns c =
     let l = c .before .before .before .before .before in
-    filling-rest _ _ _ _ (l .loop .inv .1) _ _ (l .loop .inv .0) (c .before .before .fir-rest .ensures)
+    filling-on _ _ _ _ (l .loop .inv .1) _ _ (l .loop .inv .0) (c .before .before .fir-rest .ensures)
 
 pub fir-spec : {M : Type 1} → statement M
 fir-spec =

@@ -1,9 +1,9 @@
 -- `fir::fir_rest` meets its contract: the places passed have their sums. Assumes nothing.
-use Prim.Native.Nat.{_+_, _-_, _≤_}
+use Prim.Native.Nat.{_-_, _≤_}
 use mathlib.Core.Path.{_≡_, refl}
 use native.Mathlib.Omega.{arith}
 use borrow.Author.Needs.{needs}
-use Rattle.fir.proofs.Filling.{Filling, filling-more}
+use Rattle.complex.specs.Filling.{Filling, filling-more}
 use Rattle.fir.specs.Fir.{firAt}
 use Rattle.fir.proofs.fir_rest.Statement.{statement}
 use Rattle.fir.proofs.fir_rest.Tie as tie

@@ -3,7 +3,7 @@ use Prim.Native.Nat.{_-_, _≤_}
 use mathlib.Core.Path.{_≡_, ap₂, _∙_}
 use native.Mathlib.Omega.{arith}
 use borrow.Author.Needs.{needs}
-use Rattle.fir.proofs.Filling.{Filling, filling-none, filling-more}
+use Rattle.complex.specs.Filling.{Filling, filling-none, filling-more}
 use Prim.Native.Nat.{_^_}
 use native.Mathlib.Nat.{lt-of-le-of-lt, mul-le-mul}
 use lib.Dec.{lit<}

@@ -1,7 +1,6 @@
 -- `locate::chi_of` meets its contract. Assumes nothing.
-use mathlib.Core.Path.{_≡_, ap}
+use mathlib.Core.Path.{ap}
 use lib.Ieee.{Float}
-use Rattle.search.specs.declared.Chi.{Chi}
 use borrow.Author.Needs.{needs}
 use Rattle.locate.proofs.chi_of.Statement.{statement}
 use Rattle.locate.proofs.chi_of.Tie as tie

@@ -12,9 +12,9 @@ use Rattle.refusal.specs.Refusal.{numberOf}
 use Rattle.hold.specs.declared.Hold.{Hold}
 use Rattle.hold.specs.declared.Candidate.{Candidate}
 use Rattle.hold.specs.declared.Release.{Release}
-use Rattle.hold.specs.declared.LoneOffered.{LoneOffered}
-use Rattle.hold.specs.declared.LoneAnswer.the-variants.{Refused, Answered}
-use Rattle.hold.specs.LoneOffer.{outcome, LoneOffers}
+use Rattle.lone.specs.declared.LoneOffered.{LoneOffered}
+use Rattle.lone.specs.declared.LoneAnswer.the-variants.{Refused, Answered}
+use Rattle.lone.specs.LoneOffer.{outcome, LoneOffers}
 use Rattle.numbers.specs.Numbers.{position, holdAt, holdNumbers, heldMetric, LentRelease, releaseAfter}
 use Rattle.modem_c.specs.Calls.{lentState, candidateOf, Offers, OfferCall}
 use borrow.Author.Needs.{needs}

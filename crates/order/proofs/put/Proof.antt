@@ -1,6 +1,7 @@
 -- `order::put` meets its contract: its arrays have room for the carriers and the cells of every layout. Assumes nothing.
 use mathlib.Core.Path.{refl}
-use Rattle.order.proofs.OrderLaws.{cells-room, front}
+use Rattle.level.specs.SizedLaws.{cells-room}
+use Rattle.order.proofs.OrderLaws.{front}
 use native.Mathlib.Omega.{arith}
 use borrow.Author.Needs.{needs}
 use Rattle.order.proofs.put.Statement.{statement}

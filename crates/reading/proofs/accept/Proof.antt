@@ -1,5 +1,5 @@
 -- `reading::accept` meets its contract: the symbols of the frame that is found, decoded. Assumes nothing.
-use Rattle.search.specs.Chi.{Tables}
+use Rattle.offers.specs.Chi.{Tables}
 use Rattle.reading.specs.Begun.{symbols-fit}
 use Rattle.reading.specs.AcceptLaws.{near, accepted}
 use borrow.Author.Needs.{needs}

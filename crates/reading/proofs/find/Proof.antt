@@ -1,10 +1,9 @@
 -- `reading::find` meets its contract: what the memory holds at the frame is what the rows say. Assumes nothing.
 use mathlib.Core.Path.{sym, _∙_}
 use lib.ListN.{length}
-use Rattle.search.specs.Chi.{Tables}
+use Rattle.offers.specs.Chi.{Tables}
 use Rattle.reading.specs.InMemory.{found-in}
 use Rattle.reading.specs.Begun.{late, locate-fits}
-use borrow.Author.Needs.{needs}
 use Rattle.reading.proofs.find.Statement.{statement}
 use Rattle.reading.proofs.find.Tie as tie
 

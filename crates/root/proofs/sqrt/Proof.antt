@@ -5,12 +5,12 @@ use native.Mathlib.Nat.{zero-mul, mul-pos, zero-lt-suc, le-add-right, lt-of-lt-o
 use native.Mathlib.Omega.{arith}
 use mathlib.Core.Bool.{Bool, true, false, not, cond, true≢false, false≢true}
 use lib.IntN.{ℤ}
-use lib.Dec.{T, leb, ltb, eqb, leb→le, ltb→lt, lt→ltb, nleb→lt, not-T}
-use lib.Ieee.{Float, nan, inf, fin, binary64, up, down, lt, div, odd, ofFields, ofBits, toBits, nanBits}
-use lib.Ieee.Bits.{is-true, ofBits-toBits, nanBits-above}
+use lib.Dec.{T, leb, ltb, eqb, leb→le, ltb→lt, lt→ltb, nleb→lt}
+use lib.Ieee.{Float, nan, inf, fin, binary64, up, down, lt, div, odd, ofFields, ofBits, toBits}
+use lib.Ieee.Bits.{is-true, ofBits-toBits}
 use lib.Ieee.Fits.{up-pos, eq→eqb}
 use lib.Ieee.Compare.{differs-from-itself}
-use Rattle.laws.specs.Order.{number-by}
+use Rattle.laws.specs.Order.{clash, none-below, number-by}
 use Rattle.root.specs.Root.{sqrtOf}
 use Rattle.root.proofs.Patterns.{ofBits-is, plus, no-nan-bits}
 use borrow.Author.Needs.{needs}
@@ -23,11 +23,6 @@ sum-zero u d h =
     let k : 0 < 0 * u * 1 + 0 * d = ltb→lt 0 (0 * u * 1 + 0 * d) (subst T (sym h) tt) in
     omega (arith, zero-mul u, zero-mul d)
 
-under-zero : (a d : ℕ) → ltb a (0 * d) ≡ true → ⊥
-under-zero a d h =
-    let k : a < 0 * d = ltb→lt a (0 * d) (subst T (sym h) tt) in
-    omega (arith, zero-mul d)
-
 no-sum : (m d : ℕ) (e : ℤ) → ltb 0 (suc m * up e * 1 + 0 * d) ≡ false → ⊥
 no-sum m d e h = subst T h (lt→ltb 0 (suc m * up e * 1 + 0 * d) (lt-of-lt-of-le (mul-pos (mul-pos (zero-lt-suc m) (up-pos e)) (zero-lt-suc 0)) (le-add-right (suc m * up e * 1) (0 * d))))
 
@@ -38,7 +33,7 @@ below-zero (inf true) h = refl
 below-zero (inf false) h = absurd (false≢true h)
 below-zero (fin true zero e) h = absurd (sum-zero (up e) (down e) h)
 below-zero (fin true (suc m) e) h = refl
-below-zero (fin false m e) h = absurd (under-zero (m * up e * 1) (down e) h)
+below-zero (fin false m e) h = clash (sym (none-below (m * up e * 1) (down e)) ∙ h)
 
 -- ---- a pattern with the sign set
 abbrev signed : Float → Bool

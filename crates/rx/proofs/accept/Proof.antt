@@ -7,8 +7,8 @@ use lib.Ieee.{Float}
 use Rattle.level.specs.declared.Layout.{Layout}
 use Rattle.dat.specs.Accepted.{Markers, Phasors}
 use Rattle.filter.specs.declared.Spans.{Spans}
-use Rattle.filter.specs.Filter.{filteredEnd}
-use Rattle.search.specs.Chi.{Tables}
+use Rattle.positions.specs.Positions.{filteredEnd}
+use Rattle.offers.specs.Chi.{Tables}
 use Rattle.state.specs.declared.State.{State}
 use Rattle.rx.specs.declared.Tracks.{Tracks}
 use Rattle.state.specs.Conditions.{spanEnd}

@@ -7,8 +7,8 @@ use lib.Ieee.{Float}
 use Rattle.level.specs.declared.Layout.{Layout}
 use Rattle.level.specs.SizedLaws.{sized}
 use Rattle.hold.specs.declared.Offered.{Offered}
-use Rattle.search.specs.Search.{searchCount}
-use Rattle.search.specs.Chi.{Tables}
+use Rattle.positions.specs.Positions.{searchCount}
+use Rattle.offers.specs.Chi.{Tables}
 use Rattle.search.specs.Fits.{offersIn, Searched, SearchFits}
 use Rattle.state.specs.declared.SearchPlace.{SearchPlace}
 use Rattle.state.specs.declared.State.{State}

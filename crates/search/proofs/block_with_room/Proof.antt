@@ -3,9 +3,9 @@ use Prim.Native.Nat.{ℕ, _-_}
 use mathlib.Core.Path.{ap, _∙_}
 use native.Mathlib.Omega.{arith}
 use lib.Ieee.{Float}
-use Rattle.search.specs.Search.{offersFrom}
+use Rattle.offers.specs.Search.{offersFrom}
 use Rattle.search.specs.Flat.{flatMetric}
-use Rattle.search.specs.Block.{offeredAll}
+use Rattle.offers.specs.Offered.{offeredAll}
 use Rattle.search.proofs.Laws.{rows-same, block-offers}
 use borrow.Author.Needs.{needs}
 use Rattle.search.proofs.block_with_room.Statement.{statement}

@@ -2,9 +2,9 @@
 use Prim.Native.Nat.{ℕ}
 use mathlib.Core.Path.{refl, ap, _∙_}
 use lib.Ieee.{Float}
-use Rattle.search.specs.Search.{offersFrom}
+use Rattle.offers.specs.Search.{offersFrom}
 use Rattle.search.specs.Flat.{flatMetric}
-use Rattle.search.specs.Block.{offeredAll}
+use Rattle.offers.specs.Offered.{offeredAll}
 use Rattle.search.proofs.Laws.{front-length, fronts-fit, fronts-room}
 use borrow.Author.Needs.{needs}
 use Rattle.search.proofs.search_block.Statement.{statement}

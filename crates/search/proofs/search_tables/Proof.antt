@@ -5,10 +5,10 @@ use native.Mathlib.Omega.{arith}
 use lib.Ieee.{Float}
 use Rattle.hold.specs.declared.Release.the-variants.{NoRelease}
 use Rattle.hold.specs.declared.Offered.{Offered}
-use Rattle.search.specs.Search.{offersFrom}
-use Rattle.search.specs.Fits.{Searched, HoldFits}
+use Rattle.offers.specs.Search.{offersFrom}
+use Rattle.search.specs.Fits.{Searched}
+use Rattle.offers.specs.Offered.{HoldFits, offeredAll}
 use Rattle.search.specs.Flat.{flatMetric}
-use Rattle.search.specs.Block.{offeredAll}
 use Rattle.search.proofs.Laws.{search-none, search-on, search-fits, all-searched}
 use borrow.Author.Needs.{needs}
 use Rattle.search.proofs.search_tables.Statement.{statement}

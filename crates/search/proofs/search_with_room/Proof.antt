@@ -1,5 +1,5 @@
 -- `search::search_with_room` meets its contract: the tables that it builds are those of the cells. Assumes nothing.
-use Rattle.search.specs.Chi.{Tables}
+use Rattle.offers.specs.Chi.{Tables}
 use Rattle.search.proofs.Built.{built-fits, built-searched}
 use borrow.Author.Needs.{needs}
 use Rattle.search.proofs.search_with_room.Statement.{statement}

@@ -1,29 +1,13 @@
 -- `snr::directions` meets its contract: a turn stores one direction more. Assumes nothing.
-use Prim.Native.Nat.{ℕ, _+_, _-_, _*_, _<_, _≤_}
-use mathlib.Core.Path.{_≡_, refl, ap, _∙_}
-use mathlib.Core.List.{List}
+use Prim.Native.Nat.{_-_, _≤_}
+use mathlib.Core.Path.{_≡_, ap, _∙_}
 use native.Mathlib.Omega.{arith}
-use lib.ListN.{length}
-use lib.Ieee.{Float}
-use Rattle.complex.specs.declared.Complex.{Complex}
-use Rattle.complex.specs.Pairs.{cget, cset, cfilled}
-use Rattle.complex.specs.PairLaws.{cfilled-none, cfilled-length, cfilled-step}
+use Rattle.complex.specs.Pairs.{cget}
+use Rattle.complex.specs.Filling.{Filling, filling-none, filling-more}
 use Rattle.snr.specs.Error.{directionOf}
 use borrow.Author.Needs.{needs}
 use Rattle.snr.proofs.directions.Statement.{statement}
 use Rattle.snr.proofs.directions.Tie as tie
-
--- a slice whose first k numbers are written
-record Filling (f : ℕ → Complex) (k : ℕ) (l m : List Float) : Type 0 where
-  long : length m ≡ length l
-  values : m ≡ cfilled f k l
-
-filling-more : (f : ℕ → Complex) (k : ℕ) (l m r : List Float) (z : Complex)
-    → Filling f k l m → 2 * k + 1 < length l → z ≡ f k → r ≡ cset m k z
-    → Filling f (k + 1) l r
-filling-more f k l m r z i h v s =
-    let t : r ≡ cfilled f (k + 1) l = s ∙ ap (cset m k) v ∙ cfilled-step f k l m (i .values) h in
-    record { long = ap length t ∙ cfilled-length f (k + 1) l (omega arith); values = t }
 
 abbrev Inv-loop : tie.InvT-loop
 Inv-loop prods n out₀ k₀ out k = (k ≤ n) × Filling (λ k. directionOf (cget prods k)) k out₀ out
@@ -32,7 +16,7 @@ abbrev μ-loop : tie.MeasureT-loop
 μ-loop prods n out₀ k₀ out k = n - k
 
 loop-holds : tie.Need-loop-holds Inv-loop μ-loop
-loop-holds c = (omega arith, record { long = refl; values = cfilled-none _ _ })
+loop-holds c = (omega arith, filling-none _ _)
 
 get-requires : tie.Need-get-requires Inv-loop μ-loop
 get-requires c κs = search needs

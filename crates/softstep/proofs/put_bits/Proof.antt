@@ -1,6 +1,6 @@
 -- `softstep::put_bits` meets its contract: after b turns the first b soft bits are written. Assumes nothing.
 use Prim.Native.Nat.{ℕ, _+_, _-_, _^_, _≤_, _<_}
-use mathlib.Core.Path.{_≡_, refl, sym, ap, _∙_}
+use mathlib.Core.Path.{_≡_, sym, ap, _∙_}
 use mathlib.Core.List.{List}
 use native.Mathlib.Omega.{arith}
 use borrow.Author.Needs.{needs}
@@ -13,7 +13,8 @@ use Rattle.demap.specs.declared.Closest.{Closest}
 use Rattle.demap.specs.NearestLaws.{nearest-below}
 use Rattle.alphabets.specs.AlphabetLaws.{size-small}
 use Rattle.alphabets.specs.Distances.{distanceAt, nearestIn}
-use Rattle.softstep.specs.Rows.{Row, leastInRow, weighed, bitIn}
+use Rattle.candidates.specs.Rows.{Row}
+use Rattle.softstep.specs.Weighed.{leastInRow, weighed, bitIn}
 use Rattle.softstep.proofs.Distances.{row-least}
 use Rattle.softstep.proofs.put_bits.Statement.{statement}
 use Rattle.softstep.proofs.put_bits.Tie as tie

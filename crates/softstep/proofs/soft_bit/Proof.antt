@@ -6,7 +6,7 @@ use borrow.Author.Tests.{eq-eqb, ne-eqb}
 use lib.Ieee.{Float, binary64, sub, mul, neg}
 use Rattle.constellation.specs.Label.{labelBit}
 use Rattle.demap.specs.declared.Closest.{Closest}
-use Rattle.softstep.specs.Rows.{weighed}
+use Rattle.softstep.specs.Weighed.{weighed}
 use Rattle.softstep.proofs.soft_bit.Statement.{statement}
 use Rattle.softstep.proofs.soft_bit.Tie as tie
 

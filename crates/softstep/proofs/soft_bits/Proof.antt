@@ -14,7 +14,7 @@ use Rattle.demap.specs.Fill.{filledFrom}
 use Rattle.demap.specs.Soft.{softBit}
 use Rattle.alphabets.specs.Alphabets.{points}
 use Rattle.alphabets.specs.Distances.{distancesFrom}
-use Rattle.softstep.specs.Rows.{bitIn}
+use Rattle.softstep.specs.Weighed.{bitIn}
 use Rattle.softstep.proofs.Distances.{bits-are}
 use Rattle.softstep.proofs.soft_bits.Statement.{statement}
 use Rattle.softstep.proofs.soft_bits.Tie as tie

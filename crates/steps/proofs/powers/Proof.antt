@@ -3,7 +3,7 @@ use Prim.Native.Nat.{_-_, _≤_}
 use mathlib.Core.Path.{_≡_, ap, _∙_}
 use native.Mathlib.Omega.{arith}
 use borrow.Author.Needs.{needs}
-use Rattle.fir.proofs.Filling.{Filling, filling-none, filling-more}
+use Rattle.complex.specs.Filling.{Filling, filling-none, filling-more}
 use Rattle.complex.specs.Pairs.{cget}
 use Rattle.steps.specs.Steps.{powerOf}
 use Rattle.steps.proofs.powers.Statement.{statement}

@@ -3,7 +3,7 @@ use Prim.Native.Nat.{_+_, _-_, _≤_}
 use mathlib.Core.Path.{_≡_}
 use native.Mathlib.Omega.{arith}
 use borrow.Author.Needs.{needs}
-use Rattle.fir.proofs.Filling.{Filling, filling-none, filling-more}
+use Rattle.complex.specs.Filling.{Filling, filling-none, filling-more}
 use Rattle.steps.specs.Steps.{stepOf}
 use Rattle.steps.proofs.steps.Statement.{statement}
 use Rattle.steps.proofs.steps.Tie as tie

@@ -4,7 +4,7 @@ use mathlib.Core.Path.{_≡_, refl, ap, _∙_}
 use native.Mathlib.Omega.{arith}
 use Rattle.level.specs.SizedLaws.{sized}
 use Rattle.dat.specs.AcceptedLaws.{row-in}
-use Rattle.eq.specs.Fill.{Filling, filling-all}
+use Rattle.complex.specs.Filling.{Filling, filling-all}
 use Rattle.symbols.specs.Standing.{filteredIth}
 use Rattle.turned.specs.PartLaws.{filling-rows, filling-row}
 use Rattle.symbols.proofs.filtered_symbols.Statement.{statement}

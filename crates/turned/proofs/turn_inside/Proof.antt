@@ -1,9 +1,9 @@
 -- `turned::turn_inside` meets its contract: a turn turns one sample more. Assumes nothing.
-use Prim.Native.Nat.{_+_, _-_, _*_, _≤_}
+use Prim.Native.Nat.{_-_, _≤_}
 use mathlib.Core.Path.{_≡_, ap₂, _∙_}
 use Rattle.complex.specs.Arithmetic.{cmul}
 use Rattle.complex.specs.Pairs.{cget}
-use Rattle.eq.specs.Fill.{Filling, filling-none, filling-more}
+use Rattle.complex.specs.Filling.{Filling, filling-none, filling-more}
 use Rattle.turned.specs.Turned.{turnedBy}
 use borrow.Author.Needs.{needs}
 use native.Mathlib.Omega.{arith}

@@ -6,7 +6,7 @@ use native.Mathlib.Omega.{arith}
 use lib.Dec.{ltb}
 use borrow.Author.Tests.{lt-ltb, le-ltb}
 use Rattle.level.specs.declared.Layout.{Layout}
-use Rattle.search.specs.Search.{reach}
+use Rattle.positions.specs.Positions.{reach}
 use Rattle.state.specs.declared.State.{State}
 use Rattle.state.specs.Conditions.{spanEnd}
 use Rattle.read_fault.specs.Conditions.{framePast}

@@ -11,7 +11,7 @@ use Rattle.refusal.specs.Any.{any}
 use Rattle.laws.specs.Tests.{inRange}
 use Rattle.level.specs.declared.Layout.{Layout}
 use Rattle.level.specs.Sized.{Sized}
-use Rattle.symbols.specs.Symbols.{driftLength}
+use Rattle.positions.specs.Positions.{driftLength}
 use Rattle.feed_fault.specs.Conditions.{one}
 use Rattle.read_fault.specs.Conditions.{wrongDrift}
 use native.Mathlib.Omega.{arith}

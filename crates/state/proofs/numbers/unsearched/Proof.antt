@@ -4,7 +4,7 @@ use mathlib.Core.Path.{_≡_, ap, ap₂, _∙_}
 use mathlib.Core.Bool.{not}
 use native.Mathlib.Omega.{arith}
 use lib.Dec.{eqb}
-use Rattle.search.specs.Search.{searchCount}
+use Rattle.positions.specs.Positions.{searchCount}
 use Rattle.state.specs.Near.{place-near}
 use Rattle.state.specs.Conditions.{unsearched}
 use borrow.Author.Needs.{needs}

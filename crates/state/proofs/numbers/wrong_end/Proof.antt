@@ -3,7 +3,7 @@ use Prim.Native.Nat.{ℕ, _-_}
 use mathlib.Core.Path.{ap, ap₂, _∙_}
 use mathlib.Core.Bool.{not}
 use lib.Dec.{eqb}
-use Rattle.filter.specs.Filter.{filteredEnd}
+use Rattle.positions.specs.Positions.{filteredEnd}
 use Rattle.state.specs.Conditions.{wrongEnd}
 use borrow.Author.Needs.{needs}
 use Rattle.state.proofs.numbers.wrong_end.Statement.{statement}
