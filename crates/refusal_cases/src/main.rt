@@ -131,10 +131,10 @@ fn offers() {
     try_offer(8, 10, 0.0 / 0.0);
 }
 
-// A byte of 2, a payload one short; a draw outside the alphabet of two, one draw short; rows one short.
+// A payload, draws and rows one short.
 fn sending(markers: &[u16]) {
-    let mut bits = [1u8; 748];
-    let mut draws = [1u8; 18];
+    let bits = [1u8; 748];
+    let draws = [1u8; 18];
     let mut rows = [0.0; 1608];
     let mut short = [0.0; 1607];
     let unit = 0.7071067811865476;
@@ -145,6 +145,14 @@ fn sending(markers: &[u16]) {
     try_send(markers, unit, 1, &bits, &draws[..17], &mut rows);
     try_send(markers, unit, 1, &bits, &draws, &mut short);
     try_send(markers, unit, 1, &bits, &draws, &mut rows);
+}
+
+// A draw outside the alphabet of two; a byte of 2.
+fn sending_bits(markers: &[u16]) {
+    let mut bits = [1u8; 748];
+    let mut draws = [1u8; 18];
+    let mut rows = [0.0; 1608];
+    let unit = 0.7071067811865476;
     draws[17] = 2;
     try_send(markers, unit, 1, &bits, &draws, &mut rows);
     bits[0] = 2;
@@ -191,11 +199,10 @@ fn phases() {
     try_phase(16, &mut phases, &mut out);
 }
 
-// Symbol rows of size 256 and 256.5, no number, one short; the last window of 16 places and one past it; windows of
-// 4,097; a wave of 1.5, waves one short; a phase that is no number.
-fn audios() {
-    let mut symbols = [256.0; 1608];
-    let mut waves = [1.0; 64];
+// The last window of 16 places and one past it; windows of 4,097; out, symbol rows and waves one short.
+fn windows_of_audio() {
+    let symbols = [256.0; 1608];
+    let waves = [1.0; 64];
     let mut phases = [0.0f32; 2];
     let mut out = [0.0; 16];
     let mut short = [0.0; 15];
@@ -214,6 +221,14 @@ fn audios() {
     try_audio(&symbols, 0, 16, &waves, &mut phases, &mut short);
     try_audio(&symbols[..1607], 0, 16, &waves, &mut phases, &mut out);
     try_audio(&symbols, 0, 16, &waves[..63], &mut phases, &mut out);
+}
+
+// A phase that is no number; a wave of 1.5; symbol rows of size 256.5 and no number.
+fn numbers_of_audio() {
+    let mut symbols = [256.0; 1608];
+    let mut waves = [1.0; 64];
+    let mut phases = [0.0f32; 2];
+    let mut out = [0.0; 16];
     phases[0] = 0.0 / 0.0;
     try_audio(&symbols, 0, 16, &waves, &mut phases, &mut out);
     phases[0] = 0.0;
@@ -258,10 +273,12 @@ fn main() {
     tables();
     title(b"sendings");
     sending(&markers);
+    sending_bits(&markers);
     title(b"phases");
     phases();
     title(b"windows of audio");
-    audios();
+    windows_of_audio();
+    numbers_of_audio();
     title(b"openings");
     openings(&markers);
     title(b"lone offers");

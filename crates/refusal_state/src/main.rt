@@ -187,14 +187,21 @@ fn refusals(markers: &[u16], phasors: &[f64], book: &[f64], memory: &mut [f64], 
     }
 }
 
+// By way of a receiver's memory.
+fn with_memory(markers: &[u16], phasors: &[f64], book: &[f64], signal: &[f64])
+    requires { ⌜ (length (now book) ≡ 6000) × (length (now signal) ≡ 53600) ⌝ }
+{
+    let mut memory = [0.0; 522816];
+    refusals(markers, phasors, book, &mut memory, signal);
+}
+
 fn receiver() {
     let mut book = [0.0; 6000];
     let mut markers = [0u16; 822];
     let mut phasors = [0.0; 1572];
     let mut signal = [0.0; 53600];
-    let mut memory = [0.0; 522816];
     let sent = replay_inputs::two_frames(&mut book, &mut markers, &mut phasors, &mut signal);
-    refusals(&markers, &phasors, &book, &mut memory, &signal);
+    with_memory(&markers, &phasors, &book, &signal);
     if let Answer::Refused(_) = sent {
         io::write_all(STDOUT_FILENO, b"not sent\n");
     }
