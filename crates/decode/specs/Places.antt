@@ -34,7 +34,8 @@ use Rattle.demap.specs.Soft.{softBit}
 use Rattle.demap.specs.SignLaw.{milli}
 use Rattle.snr.specs.Median.{medianOf}
 use Rattle.snr.specs.MedianLaws.{median-same}
-use Rattle.eq.specs.Steps.{Preceded, coherentOf, coherenceOf, turnOf, stepOf, packedAt, steppedOf}
+use Rattle.eq.specs.Steps.{stepOf, packedAt, steppedOf}
+use Rattle.coherence.specs.Coherence.{Preceded, coherentOf, coherenceOf, turnOf}
 use Rattle.eq.specs.Noise.{Inside, deviationOf, noiseOf}
 use Rattle.marks.specs.declared.Kind.{Kind}
 use Rattle.marks.specs.declared.Kind.the-variants as kind

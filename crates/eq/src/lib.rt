@@ -1,46 +1,14 @@
-// Steps of a reading in lent scratch: their turn, their size and their noise (01, "Reading"; eq.rs, and `coherence`
-// and `decode` of rx/psk.rs).
+// Steps of a reading in lent scratch, their size and their noise (01, "Reading"; eq.rs, and `decode` of rx/psk.rs).
 ghost use mathlib.Core.Path.{_≡_};
 ghost use Prim.Native.Nat.{_+_, _*_, _<_, _≤_};
 ghost use lib.ListN.{length};
 ghost use Rattle.complex.specs.Arithmetic.{czero, cunscale};
 ghost use Rattle.complex.specs.Pairs.{cget, cfilled};
-ghost use Rattle.eq.specs.Steps.{coherentOf, coherenceOf, turnOf, steppedOf, Preceded, Packed, stepsFrom, Row};
+ghost use Rattle.eq.specs.Steps.{steppedOf, Packed, stepsFrom, Row};
 ghost use Rattle.complex.specs.Stored.{storedFrom};
 ghost use Rattle.eq.specs.Noise.{deviationOf, noiseOf, Inside};
 ghost use Rattle.demap.specs.Gain.{meanNorm};
 use complex::Complex;
-
-// The unit vector of a symbol times the conjugate of the one before.
-fn coherent(z: &[f64], at: usize) -> Complex
-    requires { ⌜ (1 ≤ at) × (2 * at + 1 < length (now z)) ⌝ }
-    ensures { λ r. ⌜ r ≡ coherentOf (now (z .entry)) at ⌝ }
-{
-    let before = complex::get(z, at - 1);
-    norm::unit(complex::mul(complex::get(z, at), complex::conj(before)))
-}
-
-// The sum of these over the marked symbols, whose places are given.
-pub fn coherence(z: &[f64], marks: &[usize]) -> Complex
-    requires { ⌜ Preceded (length (now z)) (now marks) ⌝ }
-    ensures { λ r. ⌜ r ≡ coherenceOf (now (z .entry)) (now (marks .entry)) ⌝ }
-{
-    let mut sum = complex::zero();
-    let mut k = 0;
-    while k < marks.len() {
-        sum = complex::add(sum, coherent(z, marks[k]));
-        k += 1;
-    }
-    sum
-}
-
-// The turn that takes that sum to the real axis.
-pub fn turn(z: &[f64], marks: &[usize]) -> Complex
-    requires { ⌜ Preceded (length (now z)) (now marks) ⌝ }
-    ensures { λ r. ⌜ r ≡ turnOf (now (z .entry)) (now (marks .entry)) ⌝ }
-{
-    norm::unit(complex::conj(coherence(z, marks)))
-}
 
 // A carrier's steps, turned by r: `to` isn't behind `from`, so that no symbol is written over before it is read.
 fn pack_row(z: &mut [f64], from: usize, to: usize, steps: usize, r: Complex)

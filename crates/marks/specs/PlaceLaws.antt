@@ -15,7 +15,7 @@ use Rattle.cells.specs.Counts.{byCarrier-count}
 use Rattle.dat.specs.Accepted.{Markers}
 use Rattle.dat.specs.AcceptedLaws.{row-in}
 use Rattle.chi.specs.Cells.{InRow, InFrame}
-use Rattle.eq.specs.Steps.{Preceded}
+use Rattle.coherence.specs.Coherence.{Preceded}
 use Rattle.eq.specs.Noise.{Inside}
 use Rattle.marks.specs.declared.Kind.{Kind}
 use Rattle.marks.specs.Places.{perCarrier, symbolsOf, packedPlace, placesOf}

@@ -24,7 +24,7 @@ use Rattle.state.specs.Conditions.{spanEnd}
 use Rattle.rx.specs.Feed.{Given}
 use Rattle.rx.specs.Sound.{Sound, sound}
 use Rattle.reading.specs.Rows.{trackRows}
-use Rattle.read_fault.specs.Conditions.{framePast, samplesPast, notInHand}
+use Rattle.read_conditions.specs.Conditions.{framePast, samplesPast, notInHand}
 use Rattle.reading.specs.Local.{SameRows}
 use Rattle.modem.specs.Ideal.{accepted, sampleRow, broughtBy, filteredRow, stepRow, powerRow, carrierPart}
 use Rattle.modem.specs.Ideal.{receiverOf}

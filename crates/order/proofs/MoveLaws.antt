@@ -17,12 +17,12 @@ use Rattle.level.specs.declared.Layout.{Layout}
 use Rattle.level.specs.Lengths.{cells}
 use Rattle.cells.specs.Cells.{Cell, cellAt}
 use Rattle.dat.specs.Accepted.{Markers}
-use Rattle.order.specs.TimeCells.{timeCells, carrierCells, placeIn}
-use Rattle.order.specs.Places.{timePlaces}
+use Rattle.time_cells.specs.TimeCells.{timeCells, carrierCells, placeIn}
+use Rattle.time_cells.specs.Places.{timePlaces}
 use Rattle.order.specs.SoftOrder.{rearranged, byTime, byCarrier, inOrder}
 use Rattle.order.specs.declared.Order.the-variants.{Time, Carrier}
-use Rattle.order.proofs.CellLists.{Placed, placed, member, perm-member}
-use Rattle.order.proofs.CellOrder.{time-permuted, time-once, carrier-once, time-count, carrier-count}
+use Rattle.time_cells.proofs.CellLists.{Placed, placed, member, perm-member}
+use Rattle.time_cells.proofs.CellOrder.{time-permuted, time-once, carrier-once, time-count, carrier-count}
 use mathlib.Core.List.{Permᴰ·symm}
 
 -- ---- a copy, entry by entry

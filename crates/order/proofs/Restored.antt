@@ -12,12 +12,13 @@ use Rattle.level.specs.SizedLaws.{sized}
 use Rattle.cells.specs.Cells.{Cell, cellAt}
 use Rattle.dat.specs.Accepted.{Markers}
 use Rattle.dat.specs.AcceptedLaws.{row-in, markers-of}
-use Rattle.order.specs.TimeCells.{timeCells, carrierCells, placeIn}
+use Rattle.time_cells.specs.TimeCells.{timeCells, carrierCells, placeIn}
 use Rattle.order.specs.SoftOrder.{rearranged, byTime, byCarrier}
-use Rattle.order.specs.Restored.{Earlier, nth, SoftBitsByTime, NothingIsLost}
-use Rattle.order.proofs.CellLists.{Placed, placed, member, perm-member, rising-at}
-use Rattle.order.proofs.CellOrder.{time-permuted, time-sorted, time-once, carrier-once, time-count}
-use Rattle.order.proofs.CellOrder.{carrier-count}
+use Rattle.time_cells.specs.TimeCells.{Earlier}
+use Rattle.order.specs.Restored.{nth, SoftBitsByTime, NothingIsLost}
+use Rattle.time_cells.proofs.CellLists.{Placed, placed, member, perm-member, rising-at}
+use Rattle.time_cells.proofs.CellOrder.{time-permuted, time-sorted, time-once, carrier-once, time-count}
+use Rattle.time_cells.proofs.CellOrder.{carrier-count}
 
 -- ---- of any two lists of the same cells
 module _ (w : ℕ) (P : 0 < w) (from to : List Cell) (p : List·Permᴰ to from) where

@@ -1,7 +1,6 @@
 -- What is proved of soft bits by time (02, U12). Definitions only.
 use Prim.Native.Nat.{ℕ, _<_, _/_, _%_}
 use mathlib.Core.Path.{_≡_}
-use mathlib.Core.Logic.{_⊎_}
 use mathlib.Core.List.{List, Perm}
 use lib.ListN.{length, getD}
 use Rattle.complex.specs.Lists.{tabulate}
@@ -9,12 +8,8 @@ use Rattle.level.specs.declared.Layout.{Layout}
 use Rattle.level.specs.Rows.{IsLayout}
 use Rattle.dat.specs.Tables.{MarkersAccepted}
 use Rattle.cells.specs.Cells.{Cell, cellAt}
-use Rattle.order.specs.TimeCells.{timeCells, carrierCells}
+use Rattle.time_cells.specs.TimeCells.{timeCells, carrierCells, Earlier}
 use Rattle.order.specs.SoftOrder.{byTime, byCarrier}
-
--- x comes before y "by symbol, then carrier"
-abbrev pub Earlier : Cell → Cell → Type 0
-Earlier x y = (x .symbol < y .symbol) ⊎ ((x .symbol ≡ y .symbol) × (x .carrier < y .carrier))
 
 abbrev pub nth : List Cell → ℕ → Cell
 nth cells i = getD cells i (cellAt 0 0)

@@ -16,7 +16,7 @@ use Rattle.dat.specs.Tables.{markerFault}
 use Rattle.cells.specs.Cells.{Cell, cellAt}
 use Rattle.order.specs.declared.Order.{Order}
 use Rattle.order.specs.declared.Order.the-variants.{Time, Carrier}
-use Rattle.order.specs.TimeCells.{timeCells, carrierCells, placeIn}
+use Rattle.time_cells.specs.TimeCells.{timeCells, carrierCells, placeIn}
 
 -- a list that has bps entries for each cell of `from`, put into the order of the cells `to`: entry b of cell k of `to`
 -- is entry b of that cell in `from`; entries are copied, whatever they are, and d stands for one past the end

@@ -8,7 +8,7 @@ use Rattle.refusal.specs.Outcome.{firstFault}
 use Rattle.level.specs.declared.Layout.{Layout}
 use Rattle.state.specs.declared.State.{State}
 use Rattle.state.specs.Conditions.{wrongState}
-use Rattle.read_fault.specs.Conditions.{wrongBuffers, framePast, notInHand, wrongDrift}
+use Rattle.read_conditions.specs.Conditions.{wrongBuffers, framePast, notInHand, wrongDrift}
 
 -- rows 17 and 22, without its clause on drift rows
 unfoldable pub placeFault : Layout → State → ℕ → ℕ → Fault

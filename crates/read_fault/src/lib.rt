@@ -4,9 +4,6 @@ ghost use Rattle.level.specs.Rows.{IsLayout};
 ghost use Rattle.refusal.specs.Outcome.{orElse};
 ghost use Rattle.dat.specs.Tables.{tableFault};
 ghost use Rattle.read_fault.specs.Faults.{placeFault, frameFault};
-
-pub mod conditions;
-
 use level::Layout;
 use refusal::Fault;
 use refusal::Position;
@@ -21,7 +18,7 @@ fn place_fault(l: Layout, s: State, room: usize, t0: Position) -> Fault
     if state_fault::wrong_state(l, room, s) {
         return Fault::Met(Refusal::State);
     }
-    if conditions::frame_past(l, s, t0.0) {
+    if read_conditions::frame_past(l, s, t0.0) {
         return Fault::Met(Refusal::NotInHand);
     }
     Fault::Clear
@@ -60,16 +57,16 @@ fn frame_fault(
     requires { ⌜ IsLayout l ⌝ }
     ensures { λ r. ⌜ r ≡ frameFault l s room (t0 .0) (now (drift .entry)) scratch out ⌝ }
 {
-    if conditions::wrong_buffers(l, scratch, out) {
+    if read_conditions::wrong_buffers(l, scratch, out) {
         return Fault::Met(Refusal::Buffer);
     }
     if state_fault::wrong_state(l, room, s) {
         return Fault::Met(Refusal::State);
     }
-    if conditions::not_in_hand(l, s, t0.0, drift) {
+    if read_conditions::not_in_hand(l, s, t0.0, drift) {
         return Fault::Met(Refusal::NotInHand);
     }
-    if conditions::wrong_drift(l, drift) {
+    if read_conditions::wrong_drift(l, drift) {
         return Fault::Met(Refusal::DriftRows);
     }
     Fault::Clear

@@ -28,8 +28,8 @@ use Rattle.decode.specs.SoftBits.{softBits}
 use Rattle.reading.specs.declared.Reading.{Reading}
 use Rattle.reading.specs.declared.LocateAnswer.the-variants as loc
 use Rattle.reading.specs.declared.ReadAnswer.the-variants as rd
-use Rattle.reading.specs.Reading.{located, readingOf}
-use Rattle.read_fault.specs.Conditions.{wrongBuffers, framePast, notInHand, wrongGain}
+use Rattle.reading.specs.Reading.{readingOf}
+use Rattle.read_conditions.specs.Conditions.{wrongBuffers, framePast, notInHand, wrongGain}
 use Rattle.read_fault.specs.Faults.{placeFault, frameFault}
 use Rattle.reading.specs.Read.{Asked, foundIn, readFault, readBegun}
 use Rattle.reading.specs.Read.{gainFault, symbolsRead, readAccepted, readOutcome, stepsLeft}

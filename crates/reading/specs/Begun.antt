@@ -31,7 +31,7 @@ use Rattle.state.specs.declared.State.{State}
 use Rattle.state.specs.Conditions.{spanEnd, wrongState}
 use Rattle.feed_fault.specs.Conditions.{one}
 use Rattle.rx.specs.Sound.{Sound, sound}
-use Rattle.read_fault.specs.Conditions.{wrongBuffers, framePast, samplesPast, notInHand, wrongDrift}
+use Rattle.read_conditions.specs.Conditions.{wrongBuffers, framePast, samplesPast, notInHand, wrongDrift}
 use Rattle.read_fault.specs.Faults.{placeFault, frameFault}
 use Rattle.reading.specs.Read.{Asked, tablesOf, locateFault, readFault}
 

@@ -1,14 +1,13 @@
 -- The pieces of a decoded frame make the definition. Assumes nothing.
 use Prim.Native.Nat.{ℕ, _-_, _*_, _≤_, _<_}
-use mathlib.Core.Path.{_≡_, refl, sym, ap, ap₂, _∙_}
-use mathlib.Core.Bool.{Bool, true, false}
+use mathlib.Core.Path.{_≡_, ap, ap₂, _∙_}
+use mathlib.Core.Bool.{true, false}
 use mathlib.Core.List.{List}
 use native.Mathlib.Omega.{arith}
 use native.Mathlib.Nat.{mul-le-mul-left}
 use lib.ListN.{length}
 use lib.Ieee.{Float}
 use Rattle.refusal.specs.declared.Refusal.the-variants as no
-use Rattle.refusal.specs.Outcome.{refused, answered}
 use Rattle.complex.specs.declared.Complex.{Complex}
 use Rattle.complex.specs.Arithmetic.{cunscale}
 use Rattle.complex.specs.Lists.{tabulate}
@@ -27,7 +26,7 @@ use Rattle.decode.specs.Median.{phaseMedian}
 use Rattle.decode.specs.Entries.{mean-at, divided-at, step-at}
 use Rattle.decode.specs.Places.{variance-same, soft-same}
 use Rattle.reading.specs.declared.ReadAnswer.the-variants as rd
-use Rattle.read_fault.specs.Conditions.{wrongGain}
+use Rattle.read_conditions.specs.Conditions.{wrongGain}
 use Rattle.reading.specs.Reading.{readingOf}
 use Rattle.reading.specs.Read.{gainFault, stepsLeft}
 use Rattle.reading.specs.Decoded.{unlessSilent, DecodedBy}

@@ -20,7 +20,7 @@ use Rattle.decode.specs.Steps.{undivided, divided, gainOf, scratchOf}
 use Rattle.decode.specs.SoftBits.{softBits}
 use Rattle.state.specs.declared.State.{State}
 use Rattle.rx.specs.View.{view}
-use Rattle.read_fault.specs.Conditions.{wrongGain}
+use Rattle.read_conditions.specs.Conditions.{wrongGain}
 use Rattle.read_fault.specs.Faults.{placeFault, frameFault}
 use Rattle.reading.specs.declared.Reading.{Reading}
 use Rattle.reading.specs.declared.LocateAnswer.{LocateAnswer}

@@ -15,7 +15,6 @@ ghost use Rattle.reading.specs.Decoded.{DecodedBy, AcceptedBy};
 use level::Chosen;
 use level::Layout;
 use locate::Located;
-use read_fault::conditions;
 use refusal::Fault;
 use refusal::Position;
 use refusal::Refusal;
@@ -101,12 +100,12 @@ fn decode(
     decode::steps(l, markers, scratch);
     let n = l.nc * (l.nsym - 1);
     let g = eq::mean_norm(scratch, n);
-    if conditions::wrong_gain(g) {
+    if read_conditions::wrong_gain(g) {
         return ReadAnswer::Refused(Refusal::Gain);
     }
     eq::divide(scratch, n, g);
     let nvar = decode::variance(l, markers, scratch);
-    decode::soft_bits(l, markers, scratch, nvar, out);
+    soft_frame::soft_bits(l, markers, scratch, nvar, out);
     ReadAnswer::Read(Reading {
         located: found,
         g,

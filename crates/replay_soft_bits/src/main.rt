@@ -27,7 +27,7 @@ fn decode(l: Layout, markers: &[u16], scratch: &mut [f64], out: &mut [f64])
     let g = eq::mean_norm(scratch, n);
     eq::divide(scratch, n, g);
     let nvar = decode::variance(l, markers, scratch);
-    decode::soft_bits(l, markers, scratch, nvar, out);
+    soft_frame::soft_bits(l, markers, scratch, nvar, out);
     shown::measures(g, nvar, median);
     shown::all_soft(out);
 }

@@ -1,6 +1,6 @@
 -- `decode::turn_with_room` meets its contract: the turn of the marks at their places. Assumes nothing.
 use mathlib.Core.Path.{ap, _∙_}
-use Rattle.eq.specs.Steps.{turnOf}
+use Rattle.coherence.specs.Coherence.{turnOf}
 use Rattle.marks.specs.declared.Kind.the-variants as kind
 use Rattle.decode.specs.Places.{symbols-preceded, turn-is}
 use borrow.Author.Needs.{needs}

@@ -11,7 +11,7 @@ use Rattle.level.specs.SizedLaws.{sized}
 use Rattle.state.specs.declared.State.{State}
 use Rattle.state.specs.Near.{near-state}
 use Rattle.state.specs.Conditions.{wrongState}
-use Rattle.read_fault.specs.Conditions.{wrongBuffers, notInHand, wrongDrift}
+use Rattle.read_conditions.specs.Conditions.{wrongBuffers, notInHand, wrongDrift}
 use Rattle.read_fault.specs.Faults.{frameFault}
 use borrow.Author.Needs.{needs}
 use Rattle.read_fault.proofs.frame_fault.Statement.{statement}

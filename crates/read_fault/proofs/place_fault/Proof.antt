@@ -9,7 +9,7 @@ use Rattle.level.specs.SizedLaws.{sized}
 use Rattle.state.specs.declared.State.{State}
 use Rattle.state.specs.Near.{near-state}
 use Rattle.state.specs.Conditions.{wrongState}
-use Rattle.read_fault.specs.Conditions.{framePast}
+use Rattle.read_conditions.specs.Conditions.{framePast}
 use Rattle.read_fault.specs.Faults.{placeFault}
 use borrow.Author.Needs.{needs}
 use Rattle.read_fault.proofs.place_fault.Statement.{statement}
