@@ -5,10 +5,10 @@ ghost use lib.ListN.{length};
 use crate::log;
 use hold::Release;
 use libc::STDOUT_FILENO;
+use opening::OpenAnswer;
 use refusal::Position;
 use rx::FeedAnswer;
 use rx::FeedResult;
-use rx::OpenAnswer;
 use rx::State;
 
 // How a signal is cut: feeds of 4,000, of drawn lengths, or many small ones; each has empty ones too.
@@ -195,7 +195,7 @@ pub fn cut(
 )
     requires { ⌜ length (now signal) ≤ 2 ^ 32 ⌝ }
 {
-    let answer = rx::open(500, 4, markers, phasors, Position(1000), book);
+    let answer = opening::open(500, 4, markers, phasors, Position(1000), book);
     let OpenAnswer::Opened(opened) = answer else {
         return;
     };

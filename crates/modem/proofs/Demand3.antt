@@ -32,7 +32,7 @@ use Rattle.decode.specs.Entries.{scratch-at, step-at}
 use Rattle.state.specs.declared.State.{State}
 use Rattle.rx.specs.declared.FeedAnswer.{FeedAnswer}
 use Rattle.rx.specs.declared.FeedAnswer.the-variants.{Accepted, Refused}
-use Rattle.rx.specs.Open.{openedState}
+use Rattle.opening.specs.Open.{openedState}
 use Rattle.rx.specs.Feed.{Given, Left}
 use Rattle.rx.specs.View.{view}
 use Rattle.state.specs.Conditions.{wrongState}

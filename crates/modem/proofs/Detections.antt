@@ -17,7 +17,7 @@ use Rattle.state.specs.declared.State.{State}
 use Rattle.rx.specs.declared.FeedAnswer.{FeedAnswer}
 use Rattle.rx.specs.Receiver.{Receiver}
 use Rattle.rx.specs.View.{view}
-use Rattle.rx.specs.Open.{openedState}
+use Rattle.opening.specs.Open.{openedState}
 use Rattle.rx.specs.Feed.{Given}
 use Rattle.rx.specs.Sound.{not-wrong}
 use Rattle.modem.specs.Ideal.{accepted, verdicts, sampleRow, broughtBy, offersOf}

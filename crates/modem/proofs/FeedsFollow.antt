@@ -1,5 +1,5 @@
 -- Every list of calls of `feed` after an opening that answered, refused calls included. Assumes nothing.
-use Prim.Native.Nat.{ℕ, _*_}
+use Prim.Native.Nat.{_*_}
 use mathlib.Core.Path.{_≡_, sym, ap, _∙_, subst}
 use mathlib.Core.List.{List}
 use mathlib.Core.Logic.{_↔_}
@@ -11,11 +11,11 @@ use Rattle.level.specs.Layout.{chosen}
 use Rattle.hold.specs.declared.Block.the-variants.{First}
 use Rattle.hold.specs.History.{Detection, History}
 use Rattle.state.specs.declared.State.{State}
-use Rattle.rx.specs.Open.{openedState}
+use Rattle.opening.specs.Open.{openedState}
 use Rattle.modem.specs.Ideal.{accepted, offersOf}
 use Rattle.modem.specs.Calls.{Session, detections}
 use Rattle.modem.specs.Follows.{OpenedAs, Follows, AllRefused}
-use Rattle.modem.specs.FeedsFollow.{InRoom, FeedsFollow, DetectionsRule, OtherRoom, FeedsRefused}
+use Rattle.modem.specs.FeedsFollow.{FeedsFollow, DetectionsRule, FeedsRefused}
 use Rattle.modem.proofs.Refused.{all-refused}
 use Rattle.modem.proofs.Opened.{opened-as, opened-follows, opened-rule}
 

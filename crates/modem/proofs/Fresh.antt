@@ -23,7 +23,7 @@ use Rattle.offers.specs.Chi.{least, candidateOf}
 use Rattle.state.specs.declared.SearchPlace.the-variants.{Fresh}
 use Rattle.rx.specs.Receiver.{opened, emptyCarrier, Feed}
 use Rattle.rx.specs.View.{carrierIn, view}
-use Rattle.rx.specs.Open.{openedState}
+use Rattle.opening.specs.Open.{openedState}
 use Rattle.state.specs.Conditions.{spanEnd}
 use Rattle.rx.specs.Once.{each-offer}
 use Rattle.rx.specs.Numbers.{placeIn}

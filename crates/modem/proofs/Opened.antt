@@ -23,7 +23,7 @@ use Rattle.rx.specs.declared.FeedAnswer.{FeedAnswer}
 use Rattle.rx.specs.Feed.{Given}
 use Rattle.feed_fault.specs.Conditions.{wrongStart}
 use Rattle.feed_fault.specs.Faults.{startFault, openFault}
-use Rattle.rx.specs.Open.{openedState, openOutcome}
+use Rattle.opening.specs.Open.{openedState, openOutcome}
 use Rattle.modem.specs.Ideal.{accepted, offersOf}
 use Rattle.modem.specs.Calls.{Calls, detections}
 use Rattle.modem.specs.Follows.{OpenedAs, Follows}

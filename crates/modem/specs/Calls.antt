@@ -9,7 +9,7 @@ use Rattle.hold.specs.Releases.{released}
 use Rattle.state.specs.declared.State.{State}
 use Rattle.rx.specs.declared.FeedAnswer.{FeedAnswer}
 use Rattle.rx.specs.declared.FeedAnswer.the-variants.{Accepted, Refused}
-use Rattle.rx.specs.Open.{openOutcome}
+use Rattle.opening.specs.Open.{openOutcome}
 use Rattle.rx.specs.Feed.{Given, outcome, FedBy}
 use Rattle.modem.specs.Ideal.{verdict}
 

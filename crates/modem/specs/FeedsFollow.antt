@@ -15,7 +15,7 @@ use Rattle.dat.specs.Tables.{tableFault}
 use Rattle.hold.specs.declared.Block.the-variants.{First}
 use Rattle.hold.specs.History.{Detection, History}
 use Rattle.state.specs.declared.State.{State}
-use Rattle.rx.specs.Open.{openOutcome}
+use Rattle.opening.specs.Open.{openOutcome}
 use Rattle.feed_fault.specs.Conditions.{wrongBook, wrongSamples, wrongNumber, wrongParts}
 use Rattle.rx.specs.Receiver.{Feed}
 use Rattle.rx.specs.Feed.{Given, feedOf}

@@ -17,7 +17,7 @@ use Rattle.state.specs.declared.State.{State}
 use Rattle.rx.specs.declared.FeedAnswer.{FeedAnswer}
 use Rattle.rx.specs.Receiver.{Receiver, Feed}
 use Rattle.rx.specs.View.{view}
-use Rattle.rx.specs.Open.{openedState}
+use Rattle.opening.specs.Open.{openedState}
 use Rattle.state.specs.Conditions.{spanEnd, wrongState}
 use Rattle.feed_fault.specs.Conditions.{wrongBook}
 use Rattle.rx.specs.Feed.{Given}

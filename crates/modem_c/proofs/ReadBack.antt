@@ -27,7 +27,7 @@ use Rattle.state.specs.declared.State.{State}
 use Rattle.rx.specs.declared.FeedAnswer.{FeedAnswer}
 use Rattle.rx.specs.declared.FeedAnswer.the-variants.{Accepted, Refused}
 use Rattle.feed_fault.specs.Faults.{startFault}
-use Rattle.rx.specs.Open.{openedState}
+use Rattle.opening.specs.Open.{openedState}
 use Rattle.rx.specs.Feed.{Left}
 use Rattle.numbers.specs.Numbers.{position, holdAt, stateOf}
 use Rattle.numbers.specs.Numbers.{holdNumbers, heldMetric, numbersOf, metricOf}

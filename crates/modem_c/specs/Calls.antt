@@ -24,7 +24,7 @@ use Rattle.state.specs.declared.State.{State}
 use Rattle.rx.specs.declared.FeedAnswer.{FeedAnswer}
 use Rattle.rx.specs.declared.FeedAnswer.the-variants as feed
 use Rattle.feed_fault.specs.Faults.{startFault}
-use Rattle.rx.specs.Open.{openedState}
+use Rattle.opening.specs.Open.{openedState}
 use Rattle.rx.specs.Feed.{Given, FedBy}
 use Rattle.numbers.specs.Numbers.{layoutNumbers, stateOf, numbersOf, metricOf, position, holdAt, holdNumbers}
 use Rattle.numbers.specs.Numbers.{heldMetric, LentRelease, releaseAfter}

@@ -14,13 +14,13 @@ mod results;
 use hold::Candidate;
 use level::Chosen;
 use lone::LoneAnswer;
+use opening::OpenAnswer;
 use reading::LocateAnswer;
 use reading::ReadAnswer;
 use refusal::Fault;
 use refusal::Position;
 use refusal::Refusal;
 use rx::FeedAnswer;
-use rx::OpenAnswer;
 
 // The layout's numbers.
 #[no_mangle]
@@ -56,7 +56,7 @@ pub extern "C" fn dimpstea_open(
     ensures { λ r. ⌜ OpenCall bandwidth rec (now (markers .entry)) (now (phasors .entry)) start (now (book .entry))
         (now (state .entry)) (now (metric .entry)) r (now (state .exit)) (now (metric .exit)) ⌝ }
 {
-    let opened = rx::open(bandwidth, rec, markers, phasors, Position(start), book);
+    let opened = opening::open(bandwidth, rec, markers, phasors, Position(start), book);
     match opened {
         OpenAnswer::Refused(r) => {
             let n = refusal::number(r);

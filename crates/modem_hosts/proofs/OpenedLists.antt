@@ -20,7 +20,7 @@ use Rattle.rx.specs.declared.FeedAnswer.{FeedAnswer}
 use Rattle.rx.specs.declared.FeedAnswer.the-variants.{Accepted, Refused}
 use Rattle.feed_fault.specs.Conditions.{wrongBook}
 use Rattle.feed_fault.specs.Faults.{startFault, openFault}
-use Rattle.rx.specs.Open.{openedState, openOutcome}
+use Rattle.opening.specs.Open.{openedState, openOutcome}
 use Rattle.rx.specs.Feed.{Given}
 use Rattle.modem.specs.Follows.{OpenedAs, wrongMemoryVerdict}
 use Rattle.modem.proofs.Refused.{all-refused}

@@ -1,10 +1,10 @@
 // Readings in the layout 500/6, of one frame of 2,172 bits: as sent, with a damaged cell, and of ties.
+use opening::OpenAnswer;
 use reading_shown::change;
 use reading_shown::feeding;
 use reading_shown::sent;
 use reading_shown::shown;
 use refusal::Position;
-use rx::OpenAnswer;
 use rx::State;
 
 // Where the last symbol of carrier 0 stands in the memory, for a frame at position 1064, at which the filtered track
@@ -140,7 +140,7 @@ fn main() {
         &mut signal,
     );
     replay::show_unsent(sent);
-    let answer = rx::open(500, 6, &markers, &phasors, Position(1000), &book);
+    let answer = opening::open(500, 6, &markers, &phasors, Position(1000), &book);
     match answer {
         OpenAnswer::Opened(s) => receive(&markers, &phasors, &book, s, &payload, &signal),
         OpenAnswer::Refused(r) => replay::show_refusal(r),

@@ -1,12 +1,12 @@
 // Readings in the layout 500/4, of two frames of 748 bits each.
 use crate::refused;
+use opening::OpenAnswer;
 use reading_shown::change;
 use reading_shown::feeding;
 use reading_shown::feeding::Fed;
 use reading_shown::sent;
 use reading_shown::shown;
 use refusal::Position;
-use rx::OpenAnswer;
 use rx::State;
 
 // Where the last symbol of carrier 0 stands in the memory, for a frame at position 1016, at which the filtered track
@@ -360,7 +360,7 @@ pub fn show_all() {
         &mut noisy,
     );
     replay::show_unsent(sent);
-    let answer = rx::open(500, 4, &markers, &phasors, Position(1000), &book);
+    let answer = opening::open(500, 4, &markers, &phasors, Position(1000), &book);
     match answer {
         OpenAnswer::Opened(s) => receive(&markers, &phasors, &book, s, &payload, &clean, &noisy),
         OpenAnswer::Refused(r) => replay::show_refusal(r),

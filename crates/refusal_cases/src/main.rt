@@ -7,10 +7,10 @@ use level::Chosen;
 use libc::STDOUT_FILENO;
 use lone::LoneAnswer;
 use meter::Metered;
+use opening::OpenAnswer;
 use refusal::Answer;
 use refusal::Place;
 use refusal::Position;
-use rx::OpenAnswer;
 
 fn show(n: u32) {
     let out = [48 + (n / 10 % 10) as u8, 48 + (n % 10) as u8, 10];
@@ -89,7 +89,7 @@ fn try_send(
 }
 
 fn try_open(bandwidth: u32, rec: u32, markers: &[u16], start: u64) {
-    let r = rx::open(bandwidth, rec, markers, &[], Position(start), &[]);
+    let r = opening::open(bandwidth, rec, markers, &[], Position(start), &[]);
     match r {
         OpenAnswer::Opened(_) => show(0),
         OpenAnswer::Refused(f) => show(refusal::number(f)),
@@ -252,7 +252,7 @@ fn openings(markers: &[u16]) {
 
 fn try_start(markers: &[u16], start: u64, book: &[f64]) {
     let phasors = [0.7071067811865476; 1572];
-    let r = rx::open(500, 4, markers, &phasors, Position(start), book);
+    let r = opening::open(500, 4, markers, &phasors, Position(start), book);
     match r {
         OpenAnswer::Opened(_) => show(0),
         OpenAnswer::Refused(f) => show(refusal::number(f)),

@@ -9,10 +9,10 @@ mod kept;
 
 use hold::Held;
 use libc::STDOUT_FILENO;
+use opening::OpenAnswer;
 use refusal::Answer;
 use refusal::Position;
 use rx::FeedAnswer;
-use rx::OpenAnswer;
 use rx::State;
 
 // An answer's number, 0 where the feed is accepted, and what is as it was.
@@ -60,7 +60,7 @@ fn try_feed(
 }
 
 fn try_open(markers: &[u16], phasors: &[f64], start: u64, book: &[f64]) {
-    let r = rx::open(500, 4, markers, phasors, Position(start), book);
+    let r = opening::open(500, 4, markers, phasors, Position(start), book);
     let n = match r {
         OpenAnswer::Opened(_) => 0,
         OpenAnswer::Refused(q) => refusal::number(q),
@@ -181,7 +181,7 @@ fn refusals(markers: &[u16], phasors: &[f64], book: &[f64], memory: &mut [f64], 
 {
     try_open(markers, phasors, 1099511627777, book);
     try_open(markers, phasors, 1000, &book[0..5998]);
-    let r = rx::open(500, 4, markers, phasors, Position(1000), book);
+    let r = opening::open(500, 4, markers, phasors, Position(1000), book);
     if let OpenAnswer::Opened(s) = r {
         feeding(markers, phasors, book, s, memory, signal);
     }

@@ -4,9 +4,9 @@ ghost use Prim.Native.Nat.{_^_, _<_, _≤_};
 ghost use lib.ListN.{length};
 use hold::Release;
 use libc::STDOUT_FILENO;
+use opening::OpenAnswer;
 use refusal::Position;
 use rx::FeedAnswer;
-use rx::OpenAnswer;
 use rx::State;
 
 fn show(answer: FeedAnswer) {
@@ -67,7 +67,7 @@ fn detections() {
     let mut signal = [0.0; 51400];
     let sent = replay_inputs::two_frames_500_6(&mut book, &mut markers, &mut phasors, &mut signal);
     replay::show_unsent(sent);
-    let answer = rx::open(500, 6, &markers, &phasors, Position(1000), &book);
+    let answer = opening::open(500, 6, &markers, &phasors, Position(1000), &book);
     match answer {
         OpenAnswer::Opened(s) => receive(&markers, &phasors, &book, s, &signal),
         OpenAnswer::Refused(r) => replay::show_refusal(r),

@@ -1,13 +1,13 @@
 // Readings in the layout 500/4, of two frames with noise at their detections: the first with no drift rows, and with
 // rows that turn by 1 Hz more than the book; the second with none. Every number and every soft bit is shown.
 use libc::STDOUT_FILENO;
+use opening::OpenAnswer;
 use reading::ReadAnswer;
 use reading_shown::change;
 use reading_shown::feeding;
 use reading_shown::feeding::Fed;
 use reading_shown::shown;
 use refusal::Position;
-use rx::OpenAnswer;
 use rx::State;
 
 fn head(name: &[u8], t0: u64) {
@@ -126,7 +126,7 @@ fn main() {
     let mut signal = [0.0; 53600];
     let sent = replay_inputs::two_frames(&mut book, &mut markers, &mut phasors, &mut signal);
     replay::show_unsent(sent);
-    let answer = rx::open(500, 4, &markers, &phasors, Position(1000), &book);
+    let answer = opening::open(500, 4, &markers, &phasors, Position(1000), &book);
     match answer {
         OpenAnswer::Opened(s) => receive(&markers, &phasors, &book, s, &signal),
         OpenAnswer::Refused(r) => replay::show_refusal(r),

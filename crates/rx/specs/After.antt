@@ -37,7 +37,7 @@ use Rattle.state.specs.declared.State.{State}
 use Rattle.state.specs.Places.{searchFrom, placeAfter}
 use Rattle.rx.specs.Receiver.{Carrier, Receiver, carrierOf, Feed, samplesAfter, carriersAfter, fed}
 use Rattle.rx.specs.View.{carrierIn, view}
-use Rattle.rx.specs.Open.{openedState}
+use Rattle.opening.specs.Open.{openedState}
 use Rattle.state.specs.Conditions.{spanEnd}
 use Rattle.state.specs.Near.{NearPlace, NearHeld, NearBlock}
 use Rattle.rx.specs.Sound.{Waits, Sound}

@@ -9,7 +9,7 @@ use Rattle.hold.specs.declared.Release.the-variants.{NoRelease, Released}
 use Rattle.state.specs.declared.State.{State}
 use Rattle.rx.specs.declared.FeedAnswer.{FeedAnswer}
 use Rattle.rx.specs.declared.FeedAnswer.the-variants as feed
-use Rattle.rx.specs.Open.{openOutcome}
+use Rattle.opening.specs.Open.{openOutcome}
 use Rattle.rx.specs.Feed.{Given}
 use Rattle.reading.specs.Read.{Asked, ReadBy}
 use Rattle.session.specs.declared.FedTwice.{FedTwice}

@@ -6,11 +6,11 @@ ghost use Rattle.reading.specs.Read.{asked};
 ghost use Rattle.modem.specs.Calls.{Calls};
 ghost use Rattle.session.specs.Run.{opening, buffers, releasedAt, later, ReadLast, RunBy};
 use hold::Release;
+use opening::OpenAnswer;
 use reading::ReadAnswer;
 use refusal::Position;
 use refusal::Refusal;
 use rx::FeedAnswer;
-use rx::OpenAnswer;
 use state::State;
 
 // What two feeds in a row come to.
@@ -185,7 +185,7 @@ pub fn open_feed_read(
         (buffers (now (memory .entry)) (now (scratch .entry)) (now (out .entry))) r
         (buffers (now (memory .exit)) (now (scratch .exit)) (now (out .exit))) ⌝ }
 {
-    let opened = rx::open(bandwidth, rec, markers, phasors, start, book);
+    let opened = opening::open(bandwidth, rec, markers, phasors, start, book);
     match opened {
         OpenAnswer::Refused(r) => RunAnswer::NotOpened(r),
         OpenAnswer::Opened(s) => {

@@ -19,11 +19,11 @@ use Rattle.level.specs.Level.{Level, levels, lookup, isBandwidth, isRecord, lev
 use Rattle.level.specs.Layout.{layoutOf, chosen}
 use Rattle.dat.specs.Tables.{wrongLength, wrongValue, wrongFlag, wrongCount, wrongSize, markerFault, phasorFault, tableFault}
 use Rattle.state.specs.declared.State.{State}
-use Rattle.rx.specs.declared.OpenAnswer.{OpenAnswer}
-use Rattle.rx.specs.declared.OpenAnswer.the-variants.{Opened, Refused}
+use Rattle.opening.specs.declared.OpenAnswer.{OpenAnswer}
+use Rattle.opening.specs.declared.OpenAnswer.the-variants.{Opened, Refused}
 use Rattle.feed_fault.specs.Conditions.{wrongStart, wrongBook}
 use Rattle.feed_fault.specs.Faults.{startFault, openFault}
-use Rattle.rx.specs.Open.{openedState, openOutcome, outcome}
+use Rattle.opening.specs.Open.{openedState, openOutcome, outcome}
 use Rattle.numbers.specs.Numbers.{numbersOf, metricOf}
 use Rattle.modem_c.specs.Calls.{openedInto, OpenCall}
 use borrow.Author.Needs.{needs}

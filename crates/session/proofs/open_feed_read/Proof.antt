@@ -5,9 +5,9 @@ use Rattle.refusal.specs.declared.Refusal.{Refusal}
 use Rattle.refusal.specs.Refusal.{numberOf}
 use Rattle.refusal.specs.Outcome.{refused, answered}
 use Rattle.state.specs.declared.State.{State}
-use Rattle.rx.specs.declared.OpenAnswer.{OpenAnswer}
-use Rattle.rx.specs.declared.OpenAnswer.the-variants.{Opened, Refused}
-use Rattle.rx.specs.Open.{outcome}
+use Rattle.opening.specs.declared.OpenAnswer.{OpenAnswer}
+use Rattle.opening.specs.declared.OpenAnswer.the-variants.{Opened, Refused}
+use Rattle.opening.specs.Open.{outcome}
 use Rattle.session.specs.Run.{Opening, openingOutcome}
 use borrow.Author.Needs.{needs}
 use Rattle.session.proofs.open_feed_read.Statement.{statement}

@@ -10,8 +10,8 @@ use Rattle.track.specs.declared.Span.{Span}
 use Rattle.hold.specs.Offer.{freshHold}
 use Rattle.state.specs.declared.SearchPlace.the-variants.{Fresh}
 use Rattle.state.specs.declared.State.{State}
-use Rattle.rx.specs.declared.OpenAnswer.{OpenAnswer}
-use Rattle.rx.specs.declared.OpenAnswer.the-variants.{Opened, Refused}
+use Rattle.opening.specs.declared.OpenAnswer.{OpenAnswer}
+use Rattle.opening.specs.declared.OpenAnswer.the-variants.{Opened, Refused}
 use Rattle.feed_fault.specs.Faults.{openFault}
 
 -- no values, from position p on

@@ -1,15 +1,15 @@
--- `rx::opened` meets its contract. Assumes nothing.
+-- `opening::opened` meets its contract. Assumes nothing.
 use Prim.Native.Nat.{ℕ, _+_}
 use mathlib.Core.Path.{_≡_, refl}
 use Rattle.hold.specs.declared.Hold.{Hold}
 use Rattle.hold.specs.Offer.{freshHold}
-use Rattle.rx.specs.Open.{openedState, emptySpan}
+use Rattle.opening.specs.Open.{openedState, emptySpan}
 use Rattle.state.specs.declared.State.{State}
 use Rattle.state.specs.declared.SearchPlace.the-variants.{Fresh}
 use Rattle.level.specs.declared.Layout.{Layout}
 use borrow.Author.Needs.{needs}
-use Rattle.rx.proofs.opened.Statement.{statement}
-use Rattle.rx.proofs.opened.Tie as tie
+use Rattle.opening.proofs.opened.Statement.{statement}
+use Rattle.opening.proofs.opened.Tie as tie
 
 with-hold : (l : Layout) (start : ℕ) (h : Hold) → h ≡ freshHold 8 (l .dead)
     → _≡_ {A = State} (record { bandwidth = l .bandwidth; rec = l .rec; start = record { 0 = start }; samples = emptySpan start; filtered = emptySpan (start + l .delay); step = emptySpan (start + l .delay); power = emptySpan (start + l .delay); search = Fresh; hold = h }) (openedState l start)

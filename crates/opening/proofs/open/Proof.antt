@@ -1,4 +1,4 @@
--- `rx::open` meets its contract: the layout's refusal, or the first fault of the rest, or the fresh state. Assumes nothing.
+-- `opening::open` meets its contract: the layout's refusal, or the first fault of the rest, or the fresh state. Assumes nothing.
 use Prim.Native.Nat.{ℕ, _≤_, _^_}
 use mathlib.Core.Path.{_≡_, sym, ap, _∙_}
 use mathlib.Core.List.{List}
@@ -21,9 +21,9 @@ use Rattle.dat.specs.Tables.{tableFault}
 use Rattle.state.specs.declared.State.{State}
 use Rattle.feed_fault.specs.Conditions.{wrongStart}
 use Rattle.feed_fault.specs.Faults.{startFault, openFault}
-use Rattle.rx.specs.Open.{openedState, openOutcome}
-use Rattle.rx.proofs.open.Statement.{statement}
-use Rattle.rx.proofs.open.Tie as tie
+use Rattle.opening.specs.Open.{openedState, openOutcome}
+use Rattle.opening.proofs.open.Statement.{statement}
+use Rattle.opening.proofs.open.Tie as tie
 
 -- the layout that was chosen
 found : (hz rec : ℕ) (r : Chosen) (l : Layout) → Level.outcome r ≡ Level.chosen hz rec → r ≡ Psk l → Level.chosen hz rec ≡ answered l
