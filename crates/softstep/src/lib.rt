@@ -112,7 +112,7 @@ fn soft_bits(w: usize, z: Complex, nvar: f64, out: &mut [f64])
     ensures { λ _. ⌜ now (out .exit) ≡ tabulate (λ b. softBit w (points w) b z nvar) w ⌝ }
 {
     if w < 3 {
-        demap::soft_bits(w, z, nvar, out, 0);
+        cell_bits::soft_bits(w, z, nvar, out, 0);
         return;
     }
     let s = 1.0 / nvar;

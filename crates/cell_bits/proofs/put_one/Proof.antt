@@ -1,8 +1,8 @@
--- `demap::put_one` meets its contract: the store of a bit that holds, or the way by the nearest point. Assumes nothing.
+-- `cell_bits::put_one` meets its contract: the store of a bit that holds, or the way by the nearest point. Assumes nothing.
 use borrow.Author.Needs.{needs}
 use Rattle.demap.specs.FillLaws.{filled-one}
-use Rattle.demap.proofs.put_one.Statement.{statement}
-use Rattle.demap.proofs.put_one.Tie as tie
+use Rattle.cell_bits.proofs.put_one.Statement.{statement}
+use Rattle.cell_bits.proofs.put_one.Tie as tie
 
 one-bit-requires : tie.Need-one-bit-requires
 one-bit-requires c κs = search needs

@@ -1,10 +1,10 @@
--- `demap::apart` meets its contract: the definition's own tests. Assumes nothing.
+-- `cell_bits::apart` meets its contract: the definition's own tests. Assumes nothing.
 use mathlib.Core.Path.{_≡_, refl}
 use mathlib.Core.Bool.{true, false}
 use lib.Ieee.{Float, lt}
 use Rattle.demap.specs.Apart.{apartOf}
-use Rattle.demap.proofs.apart.Statement.{statement}
-use Rattle.demap.proofs.apart.Tie as tie
+use Rattle.cell_bits.proofs.apart.Statement.{statement}
+use Rattle.cell_bits.proofs.apart.Tie as tie
 
 below : (x y : Float) → lt x y ≡ true → true ≡ apartOf x y
 below x y h = rw h refl

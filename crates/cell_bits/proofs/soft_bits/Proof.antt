@@ -1,4 +1,4 @@
--- `demap::soft_bits` meets its contract: those of one bit, or of two, by the noise's reciprocal. Assumes nothing.
+-- `cell_bits::soft_bits` meets its contract: those of one bit, or of two, by the noise's reciprocal. Assumes nothing.
 use Prim.Native.Nat.{ℕ}
 use mathlib.Core.Path.{_≡_}
 use mathlib.Core.List.{List}
@@ -7,11 +7,11 @@ use native.Mathlib.Omega.{arith}
 use lib.Ieee.{Float, binary64, div}
 use Rattle.complex.specs.declared.Complex.{Complex}
 use Rattle.constellation.specs.Alphabet.{alphabet, fone}
 use Rattle.demap.specs.Nearest.{nearest}
 use Rattle.demap.specs.Soft.{softOf, softBit}
 use Rattle.demap.specs.Fill.{filledFrom}
-use Rattle.demap.proofs.soft_bits.Statement.{statement}
-use Rattle.demap.proofs.soft_bits.Tie as tie
+use Rattle.cell_bits.proofs.soft_bits.Statement.{statement}
+use Rattle.cell_bits.proofs.soft_bits.Tie as tie
 
 named : (w v at : ℕ) (z : Complex) (nvar : Float) (l m : List Float) → w ≡ v
     → m ≡ filledFrom at (λ b. softOf v (alphabet v) b z (nearest (alphabet v) z) (div binary64 fone nvar)) v l

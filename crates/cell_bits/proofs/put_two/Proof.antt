@@ -1,10 +1,10 @@
--- `demap::put_two` meets its contract: the stores of bits that hold, or the way by the nearest point. Assumes nothing.
+-- `cell_bits::put_two` meets its contract: the stores of bits that hold, or the way by the nearest point. Assumes nothing.
 use native.Mathlib.Omega.{arith}
 use borrow.Author.Needs.{needs}
 use lib.ListN.{length-set}
 use Rattle.demap.specs.FillLaws.{filled-two}
-use Rattle.demap.proofs.put_two.Statement.{statement}
-use Rattle.demap.proofs.put_two.Tie as tie
+use Rattle.cell_bits.proofs.put_two.Statement.{statement}
+use Rattle.cell_bits.proofs.put_two.Tie as tie
 
 two-bits-requires : tie.Need-two-bits-requires
 two-bits-requires c κs = search needs

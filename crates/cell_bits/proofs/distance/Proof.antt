@@ -1,10 +1,10 @@
--- `demap::distance` meets its contract: the definition's own operations. Assumes nothing.
+-- `cell_bits::distance` meets its contract: the definition's own operations. Assumes nothing.
 use mathlib.Core.Path.{ap, _∙_}
 use borrow.Author.Needs.{needs}
 use Rattle.complex.specs.declared.Complex.{Complex}
 use Rattle.demap.specs.Nearest.{distSqr}
-use Rattle.demap.proofs.distance.Statement.{statement}
-use Rattle.demap.proofs.distance.Tie as tie
+use Rattle.cell_bits.proofs.distance.Statement.{statement}
+use Rattle.cell_bits.proofs.distance.Tie as tie
 
 point-requires : tie.Need-point-requires
 point-requires c κs = search needs

@@ -1,4 +1,4 @@
--- `demap::one_bit` meets its contract: by the law of a bit whose distances are apart. Assumes nothing.
+-- `cell_bits::one_bit` meets its contract: by the law of a bit whose distances are apart. Assumes nothing.
 use mathlib.Core.Path.{_≡_, sym, ap₂, _∙_}
 use mathlib.Core.Bool.{Bool, true}
 use lib.Dec.{lit<, lit≤}
@@ -6,12 +6,12 @@ use lib.Ieee.{Float, binary64, sub, mul}
 use borrow.Author.Needs.{needs}
 use Rattle.complex.specs.declared.Complex.{Complex}
 use Rattle.constellation.specs.Alphabet.{alphabet, pointOf}
 use Rattle.demap.specs.Nearest.{distSqr, nearest}
 use Rattle.demap.specs.Soft.{softOf}
 use Rattle.demap.specs.Apart.{apartOf}
 use Rattle.demap.specs.ApartLaws.{bit-is}
-use Rattle.demap.proofs.one_bit.Statement.{statement}
-use Rattle.demap.proofs.one_bit.Tie as tie
+use Rattle.cell_bits.proofs.one_bit.Statement.{statement}
+use Rattle.cell_bits.proofs.one_bit.Tie as tie
 
 difference : (z : Complex) (s zero one : Float) (sure : Bool) → zero ≡ distSqr z (pointOf 1 0)
     → one ≡ distSqr z (pointOf 1 1) → sure ≡ apartOf zero one → sure ≡ true

@@ -1,9 +1,9 @@
--- `demap::both_apart` meets its contract: the first two, then the other two. Assumes nothing.
+-- `cell_bits::both_apart` meets its contract: the first two, then the other two. Assumes nothing.
 use mathlib.Core.Path.{_≡_, refl, sym, _∙_}
 use mathlib.Core.Bool.{Bool, true, false, cond}
 use borrow.Author.Needs.{needs}
-use Rattle.demap.proofs.both_apart.Statement.{statement}
-use Rattle.demap.proofs.both_apart.Tie as tie
+use Rattle.cell_bits.proofs.both_apart.Statement.{statement}
+use Rattle.cell_bits.proofs.both_apart.Tie as tie
 
 both : (t u r v : Bool) → r ≡ t → r ≡ true → v ≡ u → v ≡ cond t u false
 both t u r v e h g = rw (sym e ∙ h) g

@@ -1,4 +1,4 @@
--- `demap::two_bits` meets its contract: each bit by the law of a bit whose distances are apart. Assumes nothing.
+-- `cell_bits::two_bits` meets its contract: each bit by the law of a bit whose distances are apart. Assumes nothing.
 use Prim.Native.Nat.{ℕ}
 use mathlib.Core.Path.{_≡_, refl, sym, ap₂, _∙_}
 use mathlib.Core.Bool.{Bool, true, false, cond}
@@ -8,12 +8,12 @@ use borrow.Author.Needs.{needs}
 use Rattle.complex.specs.declared.Complex.{Complex}
 use Rattle.constellation.specs.Alphabet.{alphabet, pointOf}
 use Rattle.laws.specs.Order.{clash}
 use Rattle.demap.specs.Nearest.{distSqr, nearest}
 use Rattle.demap.specs.Soft.{softOf}
 use Rattle.demap.specs.Apart.{lesserOf, apartOf}
 use Rattle.demap.specs.ApartLaws.{at2, high-is, low-is}
-use Rattle.demap.proofs.two_bits.Statement.{statement}
-use Rattle.demap.proofs.two_bits.Tie as tie
+use Rattle.cell_bits.proofs.two_bits.Statement.{statement}
+use Rattle.cell_bits.proofs.two_bits.Tie as tie
 
 both : (a b : Bool) → cond a b false ≡ true → (a ≡ true) × (b ≡ true)
 both true b h = (refl, h)
