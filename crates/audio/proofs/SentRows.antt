@@ -1,14 +1,12 @@
 -- Rows that `modulate` wrote pass the audio's test of symbols: `SentRowsPass`. Assumes nothing.
-use Prim.Native.Nat.{ℕ, _*_, _<_}
-use mathlib.Core.Path.{_≡_, refl, sym, ap, _∙_}
+use Prim.Native.Nat.{ℕ, _*_}
+use mathlib.Core.Path.{_≡_, refl, sym, _∙_}
 use mathlib.Core.Bool.{Bool, true, false, not, _||_}
-use mathlib.Core.List.{List}
-use lib.Dec.{T, eqb}
+use lib.Dec.{T}
 use lib.ListN.{length, getD}
 use lib.Ieee.{Float, nan, ofBits}
 use lib.Ieee.Scale.{finite}
 use borrow.Author.Tests.{eq-eqb}
-use Rattle.refusal.specs.Any.{any}
 use Rattle.refusal.specs.AnyLaws.{any-false}
 use Rattle.refusal.specs.Outcome.{answered}
 use Rattle.laws.specs.Tests.{inSize}
@@ -16,8 +14,8 @@ use Rattle.laws.specs.Floats.{Within}
 use Rattle.laws.specs.Ranges.{within-in-size, in-size-finite}
 use Rattle.level.specs.declared.Layout.{Layout}
 use Rattle.level.specs.Lengths.{rowLength}
-use Rattle.rows.specs.Symbols.{Sending, rowsOf}
-use Rattle.rows.specs.Accepted.{Ready}
+use Rattle.carrier_rows.specs.Symbols.{Sending, rowsOf}
+use Rattle.carrier_rows.specs.Accepted.{Ready}
 use Rattle.psk.proofs.AcceptedLaws.{call-of}
 use Rattle.psk.proofs.RowSize.{rows-length, rows-within}
 use Rattle.audio.specs.CarrierAudio.{symbolBound, badPart, wrongSymbols}

@@ -6,7 +6,7 @@ use lib.Ieee.{Float}
 use Rattle.refusal.specs.declared.Answer.{Answer}
 use Rattle.refusal.specs.Outcome.{codeOf, outcome, after}
 use Rattle.level.specs.Layout.{chosen}
-use Rattle.rows.specs.Symbols.{Sending}
+use Rattle.carrier_rows.specs.Symbols.{Sending}
 use Rattle.psk.specs.Send.{Modulated}
 use Rattle.nco.specs.Nco.{NcoPhase}
 use Rattle.audio.specs.CarrierAudio.{CarrierAudio}

@@ -21,9 +21,9 @@ use Rattle.level.specs.Rows.{IsLayout}
 use Rattle.level.specs.RowLaws.{is-layout, same-layout}
 use Rattle.dat.specs.AcceptedLaws.{row-in}
 use Rattle.refusal.specs.declared.Answer.the-variants as sent
-use Rattle.rows.specs.Symbols.{Sending}
+use Rattle.carrier_rows.specs.Symbols.{Sending}
 use Rattle.psk.specs.Send.{Modulated}
-use Rattle.rows.specs.Accepted.{Ready}
+use Rattle.carrier_rows.specs.Accepted.{Ready}
 use Rattle.psk.specs.Accepted.{Call}
 use Rattle.psk.proofs.AcceptedLaws.{call-of}
 use Rattle.decode.specs.Steps.{stepCount, stepPlace, gainOf, divided, receivedIn, scratchOf}

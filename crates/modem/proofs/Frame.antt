@@ -32,8 +32,8 @@ use Rattle.cells.specs.Cells.{Cell, cellAt}
 use Rattle.dat.specs.AcceptedLaws.{row-in}
 use Rattle.demap.specs.SignLaw.{PartsWithin, Variance}
 use Rattle.demap.specs.PskLaws.{read-says, read-by}
-use Rattle.rows.specs.Symbols.{Sending, cellNumber, bitPlace, cellLabel}
-use Rattle.rows.specs.Accepted.{Ready}
+use Rattle.carrier_rows.specs.Symbols.{Sending, cellNumber, bitPlace, cellLabel}
+use Rattle.carrier_rows.specs.Accepted.{Ready}
 use Rattle.psk.proofs.Numbers.{Numbered, number-below, cell-at}
 use Rattle.psk.specs.Step.{labelOf, stepOf}
 use Rattle.psk.proofs.SentStep.{sent-step, frame-steps}

@@ -15,7 +15,7 @@ use Rattle.constellation.specs.Label.{labelAt}
 use Rattle.constellation.specs.Points.{sameNumber}
 use Rattle.demap.specs.Nearest.{nearest}
 use Rattle.demap.specs.Soft.{softBit}
-use Rattle.rows.specs.Symbols.{runningPoint}
+use Rattle.carrier_rows.specs.Symbols.{runningPoint}
 use Rattle.hold.specs.Offer.{due, keeping, releasing, offeredAt, offered}
 use Rattle.modem.specs.Marked.{JAfterJ, Marked}
 

@@ -7,7 +7,7 @@ use Rattle.refusal.specs.Outcome.{answered}
 use Rattle.level.specs.declared.Layout.{Layout}
 use Rattle.level.specs.Layout.{chosen}
 use Rattle.refusal.specs.declared.Answer.the-variants as sent
-use Rattle.rows.specs.Symbols.{Sending}
+use Rattle.carrier_rows.specs.Symbols.{Sending}
 use Rattle.psk.specs.Send.{Modulated}
 use Rattle.hold.specs.History.{Detection}
 use Rattle.state.specs.declared.State.{State}

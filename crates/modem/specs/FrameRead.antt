@@ -14,7 +14,7 @@ use Rattle.level.specs.declared.Layout.{Layout}
 use Rattle.level.specs.Lengths.{cells}
 use Rattle.cells.specs.Cells.{Cell}
 use Rattle.demap.specs.Nearest.{nearest}
-use Rattle.rows.specs.Symbols.{Sending, IsCell}
+use Rattle.carrier_rows.specs.Symbols.{Sending, IsCell}
 use Rattle.psk.specs.Step.{sentStep}
 use Rattle.meter.specs.Meter as meter
 use Rattle.meter.specs.Meter.{count, differing}

@@ -18,7 +18,7 @@ use Rattle.constellation.specs.Points.{sameNumber}
 use Rattle.dat.specs.Tables.{marked}
 use Rattle.demap.specs.Nearest.{nearest}
 use Rattle.demap.specs.Soft.{softBit}
-use Rattle.rows.specs.Symbols.{referencePoint, cellLabel, runningPoint}
+use Rattle.carrier_rows.specs.Symbols.{referencePoint, cellLabel, runningPoint}
 use Rattle.hold.specs.declared.Block.{Block}
 use Rattle.hold.specs.declared.Held.the-variants.{At}
 use Rattle.hold.specs.declared.Candidate.{Candidate}

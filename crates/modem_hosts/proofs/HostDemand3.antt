@@ -4,7 +4,7 @@ use mathlib.Core.Path.{ap, _∙_}
 use mathlib.Core.List.{map}
 use Rattle.refusal.specs.Outcome.{codeOf}
 use Rattle.reading.specs.Read.{Asked}
-use Rattle.rows.specs.Symbols.{Sending}
+use Rattle.carrier_rows.specs.Symbols.{Sending}
 use Rattle.modem.specs.Calls.{Session}
 use Rattle.modem.specs.Demand3.{SentFor, Demand3}
 use Rattle.modem.proofs.Demand3.{demand-3}

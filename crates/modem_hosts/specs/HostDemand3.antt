@@ -6,7 +6,7 @@ use lib.Ieee.{Float}
 use Rattle.refusal.specs.Outcome.{answered, codeOf}
 use Rattle.level.specs.declared.Layout.{Layout}
 use Rattle.level.specs.Layout.{chosen}
-use Rattle.rows.specs.Symbols.{Sending}
+use Rattle.carrier_rows.specs.Symbols.{Sending}
 use Rattle.hold.specs.History.{Detection}
 use Rattle.rx.specs.Feed.{Given}
 use Rattle.reading.specs.declared.Reading.{Reading}

@@ -24,9 +24,9 @@ use Rattle.dat.specs.Tables.{tableFault}
 use Rattle.level.specs.Frames.{wrongFrames}
 use Rattle.level.specs.FramesLaws.{frames-of}
 use Rattle.dat.specs.AcceptedLaws.{tables-of}
-use Rattle.rows.specs.Symbols.{Sending, rowsOf}
+use Rattle.carrier_rows.specs.Symbols.{Sending, rowsOf}
 use Rattle.psk.specs.Send.{wrongBytes, wrongPayload, alphabetSize, wrongDraws, wrongRows, senderFault, sendFault, sentIn, modulated}
-use Rattle.rows.specs.Accepted.{Ready}
+use Rattle.carrier_rows.specs.Accepted.{Ready}
 use Rattle.psk.specs.Accepted.{Call, AnsweredCalls}
 
 -- both alphabets have a point for each label

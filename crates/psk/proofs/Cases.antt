@@ -5,7 +5,7 @@ use lib.Ieee.{neg, add, sub, mul, eq, ofBits}
 use Rattle.complex.specs.Arithmetic.{cmul}
 use Rattle.constellation.specs.Alphabet.{alphabet, pointOf}
 use Rattle.constellation.specs.Points.{sameNumber}
-use Rattle.rows.specs.Symbols.{runningPoint}
+use Rattle.carrier_rows.specs.Symbols.{runningPoint}
 use Rattle.psk.specs.Cases.{JAfterJ}
 
 computed : sameNumber (cmul (cmul (pointOf 2 0) (pointOf 2 1)) (pointOf 2 1)) (pointOf 2 3) ≡ true

@@ -17,7 +17,7 @@ use Rattle.cells.specs.Counts.{one, count-step, count-le, cells-count}
 use Rattle.dat.specs.Accepted.{Markers}
 use Rattle.dat.specs.AcceptedLaws.{row-in}
 use Rattle.cells.specs.CellLaws.{byCarrier-at}
-use Rattle.rows.specs.Symbols.{IsCell, cellList, cellsBefore, cellNumber}
+use Rattle.carrier_rows.specs.Symbols.{IsCell, cellList, cellsBefore, cellNumber}
 
 -- ---- the symbols of which f holds
 -- entry k is a symbol of which f holds, and k of them are before it

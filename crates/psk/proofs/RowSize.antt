@@ -7,7 +7,7 @@ use native.Mathlib.Nat.{mod-lt, div-lt-iff-lt-mul}
 use native.Mathlib.Omega.{arith}
 use lib.Dec.{ltb, lit≤}
 use lib.ListN.{length, getD}
-use lib.Ieee.{Float, nan, ofBits}
+use lib.Ieee.{nan, ofBits}
 use borrow.Author.Tests.{ltb-true, ltb-false}
 use Rattle.refusal.specs.AnyLaws.{any-below}
 use Rattle.laws.specs.Floats.{Within}
@@ -22,12 +22,12 @@ use Rattle.level.specs.Lengths.{rowLength}
 use Rattle.level.specs.SizedLaws.{sized}
 use Rattle.dat.specs.Tables.{badPhasor, wrongSize}
 use Rattle.dat.specs.AcceptedLaws.{row-in}
-use Rattle.rows.specs.Symbols.{Sending, leadPoint, leadSymbol, frameSymbol, inRows, rowSymbol, rowsOf}
+use Rattle.carrier_rows.specs.Symbols.{Sending, leadPoint, leadSymbol, frameSymbol, inRows, rowSymbol, rowsOf}
 use Rattle.psk.proofs.Turn.{point-turn}
 use Rattle.psk.proofs.SentStep.{running-turn}
 use Rattle.psk.proofs.Size.{symbol-within}
-use Rattle.rows.specs.Accepted.{Ready}
-use Rattle.rows.proofs.Places.{lead-drawn}
+use Rattle.carrier_rows.specs.Accepted.{Ready}
+use Rattle.carrier_rows.proofs.Places.{lead-drawn}
 
 -- both parts at most 2 ^ 8
 abbrev pub Small : Complex → Type 0

@@ -18,12 +18,12 @@ use Rattle.level.specs.Lengths.{cells, rowLength}
 use Rattle.level.specs.SizedLaws.{sized}
 use Rattle.dat.specs.Tables.{marked}
 use Rattle.cells.specs.Cells.{Cell, cellAt}
-use Rattle.rows.specs.Symbols.{Sending, cellList, referencePoint, bitPlace, cellLabel, runningPoint}
+use Rattle.carrier_rows.specs.Symbols.{Sending, cellList, referencePoint, bitPlace, cellLabel, runningPoint}
 use Rattle.psk.specs.Step.{sentStep, stepAt, labelIn, SentStep, SentMark, StepLabel, labelOf, stepOf, FrameSteps}
 use Rattle.psk.proofs.Turn.{Turn, turn-mul, point-turn, cell-step, mark-step}
 use Rattle.psk.proofs.Numbers.{Numbered, entry-numbered}
-use Rattle.rows.specs.Accepted.{Ready}
-use Rattle.rows.proofs.Places.{reference-drawn, label-in, cell-ready, frame-ready}
+use Rattle.carrier_rows.specs.Accepted.{Ready}
+use Rattle.carrier_rows.proofs.Places.{reference-drawn, label-in, cell-ready, frame-ready}
 
 -- frame f of carrier c of an accepted call
 module _ (l : Layout) (m : Sending) (room : ℕ) (r : Ready l m room) (f c : ℕ) (F : f < m .frames) (C : c < l .nc) where

@@ -21,7 +21,7 @@ use Rattle.laws.specs.Operations.{square-is, add-finite, mul-finite, add-plain,
 use Rattle.complex.specs.declared.Complex.{Complex}
 use Rattle.complex.specs.Arithmetic.{cx, cmul, cconj, cscale, normSqr}
 use Rattle.dat.specs.Tables.{leastSquare, greatestSquare, badPhasor}
-use Rattle.rows.specs.Symbols.{symbolScale, symbolOf}
+use Rattle.carrier_rows.specs.Symbols.{symbolScale, symbolOf}
 use Rattle.psk.proofs.Turn.{one, nought, turnOf, Turn}
 use Rattle.laws.specs.Ranges.{in-range-finite}
 

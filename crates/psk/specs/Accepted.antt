@@ -6,8 +6,8 @@ use lib.Ieee.{Float}
 use Rattle.refusal.specs.Outcome.{answered}
 use Rattle.level.specs.declared.Layout.{Layout}
 use Rattle.level.specs.Layout.{chosen}
-use Rattle.rows.specs.Symbols.{Sending, rowsOf}
-use Rattle.rows.specs.Accepted.{Ready}
+use Rattle.carrier_rows.specs.Symbols.{Sending, rowsOf}
+use Rattle.carrier_rows.specs.Accepted.{Ready}
 use Rattle.psk.specs.Send.{modulated}
 
 -- what a call that answers rows says

@@ -7,7 +7,7 @@ use Rattle.constellation.specs.Alphabet.{pointOf}
 use Rattle.constellation.specs.Points.{sameNumber}
 use Rattle.level.specs.declared.Layout.{Layout}
 use Rattle.dat.specs.Tables.{marked}
-use Rattle.rows.specs.Symbols.{cellLabel, runningPoint}
+use Rattle.carrier_rows.specs.Symbols.{cellLabel, runningPoint}
 
 -- symbol s of carrier c in frame f is no marker, and its bits label j
 pub record SendsJ (l : Layout) (markers payload : List ℕ) (f c s : ℕ) : Type 0 where

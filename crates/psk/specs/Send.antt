@@ -19,7 +19,7 @@ use Rattle.level.specs.Lengths.{rowLength}
 use Rattle.dat.specs.Tables.{tableFault}
 use Rattle.refusal.specs.declared.Answer.{Answer}
 use Rattle.refusal.specs.declared.Answer.the-variants.{Done, Refused}
-use Rattle.rows.specs.Symbols.{Sending, rowsOf}
+use Rattle.carrier_rows.specs.Symbols.{Sending, rowsOf}
 
 -- bytes whose count is wrong, or one of which is not below the limit
 unfoldable pub wrongBytes : ℕ → ℕ → List ℕ → Bool

@@ -15,8 +15,8 @@ use Rattle.level.specs.declared.Layout.{Layout}
 use Rattle.level.specs.Lengths.{cells}
 use Rattle.dat.specs.Tables.{marked}
 use Rattle.cells.specs.Cells.{Cell, cellAt}
-use Rattle.rows.specs.Symbols.{Sending, IsCell, cellList, cellLabel, runningPoint}
-use Rattle.rows.specs.Accepted.{Ready}
+use Rattle.carrier_rows.specs.Symbols.{Sending, IsCell, cellList, cellLabel, runningPoint}
+use Rattle.carrier_rows.specs.Accepted.{Ready}
 
 -- "The step sent at a symbol is d there times conj(d) at the symbol before": at symbol s of carrier c in frame f
 unfoldable pub sentStep : Layout → List ℕ → List ℕ → List ℕ → ℕ → ℕ → ℕ → Complex

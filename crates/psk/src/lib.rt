@@ -2,7 +2,7 @@
 ghost use mathlib.Core.Path.{_≡_};
 ghost use Prim.Native.Nat.{_≤_};
 ghost use Rattle.level.specs.Rows.{IsLayout};
-ghost use Rattle.rows.specs.Symbols.{sending};
+ghost use Rattle.carrier_rows.specs.Symbols.{sending};
 ghost use Rattle.psk.specs.Send.{wrongBytes, wrongPayload, wrongDraws};
 ghost use Rattle.psk.specs.Send.{senderFault, sendFault, SentIn, Modulated};
 use level::Chosen;

@@ -13,10 +13,10 @@ use Rattle.complex.specs.PairLaws.{parts-at}
 use Rattle.level.specs.declared.Layout.{Layout}
 use Rattle.level.specs.Lengths.{rowLength}
 use Rattle.dat.specs.AcceptedLaws.{row-in}
-use Rattle.rows.specs.Symbols.{Sending, leadSymbol, frameSymbol, inRows, rowSymbol, rowsOf}
+use Rattle.carrier_rows.specs.Symbols.{Sending, leadSymbol, frameSymbol, inRows, rowSymbol, rowsOf}
 use Rattle.complex.specs.Stored.{storedFrom}
 use Rattle.complex.specs.StoredLaws.{stored-ext}
-use Rattle.rows.proofs.StoredRows.{stored-step, stored-on, stored-all, in-row}
+use Rattle.carrier_rows.proofs.StoredRows.{stored-step, stored-on, stored-all, in-row}
 
 module _ (l : Layout) (m : Sending) (c : ℕ) where
   abbrev pub lead : ℕ → Complex

@@ -15,7 +15,7 @@ use Rattle.level.specs.Layout.{chosen, outcome}
 use Rattle.level.specs.RowLaws.{is-layout}
 use Rattle.refusal.specs.declared.Answer.{Answer}
 use Rattle.refusal.specs.declared.Answer.the-variants.{Refused}
-use Rattle.rows.specs.Symbols.{Sending}
+use Rattle.carrier_rows.specs.Symbols.{Sending}
 use Rattle.psk.specs.Send.{sentIn, modulated, contents, SentIn, Modulated}
 use Rattle.psk.proofs.modulate.Statement.{statement}
 use Rattle.psk.proofs.modulate.Tie as tie

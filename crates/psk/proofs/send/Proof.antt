@@ -10,7 +10,7 @@ use Rattle.refusal.specs.declared.Fault.the-variants.{Clear, Met}
 use Rattle.refusal.specs.Outcome.{Outcome, answered, judged}
 use Rattle.level.specs.declared.Layout.{Layout}
 use Rattle.refusal.specs.declared.Answer.the-variants.{Done, Refused}
-use Rattle.rows.specs.Symbols.{Sending, rowsOf}
+use Rattle.carrier_rows.specs.Symbols.{Sending, rowsOf}
 use Rattle.psk.specs.Send.{sendFault, sentIn, contents, SentIn}
 use Rattle.psk.proofs.AcceptedLaws.{ready-of}
 use Rattle.psk.proofs.send.Statement.{statement}

@@ -14,7 +14,7 @@ use Rattle.level.specs.Frames.{wrongFrames}
 use Rattle.level.specs.FramesLaws.{frames-of}
 use Rattle.psk.specs.Send.{wrongPayload, wrongDraws, wrongRows, senderFault}
 use Rattle.psk.proofs.AcceptedLaws.{rows-right, rows-wrong}
-use Rattle.rows.proofs.Places.{starts-small}
+use Rattle.carrier_rows.proofs.Places.{starts-small}
 use Rattle.psk.proofs.sender_fault.Statement.{statement}
 use Rattle.psk.proofs.sender_fault.Tie as tie
 

@@ -5,7 +5,7 @@ use native.Mathlib.Omega.{arith}
 use Rattle.level.specs.SizedLaws.{sized}
 use Rattle.psk.specs.Send.{wrongBytes, wrongDraws}
 use Rattle.psk.proofs.AcceptedLaws.{size-is}
-use Rattle.rows.proofs.Places.{draws-small}
+use Rattle.carrier_rows.proofs.Places.{draws-small}
 use borrow.Author.Needs.{needs}
 use Rattle.psk.proofs.wrong_draws.Statement.{statement}
 use Rattle.psk.proofs.wrong_draws.Tie as tie

@@ -1,7 +1,7 @@
 -- `psk::wrong_payload` meets its contract: a byte above 1 is one not below 2. Assumes nothing.
 use native.Mathlib.Omega.{arith}
 use Rattle.psk.specs.Send.{wrongPayload}
-use Rattle.rows.proofs.Places.{payload-small}
+use Rattle.carrier_rows.proofs.Places.{payload-small}
 use borrow.Author.Needs.{needs}
 use Rattle.psk.proofs.wrong_payload.Statement.{statement}
 use Rattle.psk.proofs.wrong_payload.Tie as tie

@@ -5,11 +5,11 @@ use native.Mathlib.Nat.{le-of-lt}
 use native.Mathlib.Omega.{arith}
 use borrow.Author.Needs.{needs}
 use lib.ListN.{length}
-use Rattle.rows.specs.Symbols.{frameSymbol, inRows}
+use Rattle.carrier_rows.specs.Symbols.{frameSymbol, inRows}
 use Rattle.complex.specs.Stored.{storedFrom}
 use Rattle.complex.specs.StoredLaws.{stored-length}
-use Rattle.rows.proofs.StoredRows.{stored-same, rows-none, rows-step}
-use Rattle.rows.proofs.Places.{starts-small, frames-small, frame-ready}
+use Rattle.carrier_rows.proofs.StoredRows.{stored-same, rows-none, rows-step}
+use Rattle.carrier_rows.proofs.Places.{starts-small, frames-small, frame-ready}
 use Rattle.rows.proofs.put_frames.Statement.{statement}
 use Rattle.rows.proofs.put_frames.Tie as tie
 

@@ -12,12 +12,12 @@ use Rattle.complex.specs.Arithmetic.{czero}
 use Rattle.complex.specs.Pairs.{cset}
 use Rattle.level.specs.declared.Layout.{Layout}
 use Rattle.level.specs.Lengths.{rowLength}
-use Rattle.rows.specs.Symbols.{Sending, inRows, rowSymbol}
+use Rattle.carrier_rows.specs.Symbols.{Sending, inRows, rowSymbol}
 use Rattle.complex.specs.Stored.{storedFrom}
 use Rattle.complex.specs.StoredLaws.{stored-length}
 use Rattle.rows.proofs.Rows.{lead, frame, row-written}
-use Rattle.rows.specs.Accepted.{Ready}
-use Rattle.rows.proofs.Places.{starts-small, frames-small, row-room, ready-still, lead-ready}
+use Rattle.carrier_rows.specs.Accepted.{Ready}
+use Rattle.carrier_rows.proofs.Places.{starts-small, frames-small, row-room, ready-still, lead-ready}
 use Rattle.rows.proofs.put_row.Statement.{statement}
 use Rattle.rows.proofs.put_row.Tie as tie
 

@@ -8,13 +8,13 @@ use lib.ListN.{length}
 use lib.Ieee.{Float}
 use Rattle.level.specs.declared.Layout.{Layout}
 use Rattle.level.specs.Lengths.{rowLength}
-use Rattle.rows.specs.Symbols.{Sending, sending, inRows, rowSymbol, rowsOf}
+use Rattle.carrier_rows.specs.Symbols.{Sending, sending, inRows, rowSymbol, rowsOf}
 use Rattle.complex.specs.Stored.{storedFrom}
 use Rattle.complex.specs.StoredLaws.{stored-length}
-use Rattle.rows.proofs.StoredRows.{rows-none, rows-step}
+use Rattle.carrier_rows.proofs.StoredRows.{rows-none, rows-step}
 use Rattle.rows.proofs.Rows.{rows-written}
-use Rattle.rows.specs.Accepted.{Ready}
-use Rattle.rows.proofs.Places.{ready-still}
+use Rattle.carrier_rows.specs.Accepted.{Ready}
+use Rattle.carrier_rows.proofs.Places.{ready-still}
 use Rattle.rows.proofs.put_rows.Statement.{statement}
 use Rattle.rows.proofs.put_rows.Tie as tie
 

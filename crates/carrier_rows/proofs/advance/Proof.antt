@@ -1,11 +1,11 @@
--- `rows::advance` meets its contract: a marker, or a cell's bits. Assumes nothing.
+-- `carrier_rows::advance` meets its contract: a marker, or a cell's bits. Assumes nothing.
 use mathlib.Core.Path.{sym, _∙_}
 use native.Mathlib.Omega.{arith}
 use borrow.Author.Needs.{needs}
-use Rattle.rows.proofs.RunningLaws.{advanced-mark, advanced-cell}
-use Rattle.rows.proofs.Places.{label-in}
-use Rattle.rows.proofs.advance.Statement.{statement}
-use Rattle.rows.proofs.advance.Tie as tie
+use Rattle.carrier_rows.proofs.RunningLaws.{advanced-mark, advanced-cell}
+use Rattle.carrier_rows.proofs.Places.{label-in}
+use Rattle.carrier_rows.proofs.advance.Statement.{statement}
+use Rattle.carrier_rows.proofs.advance.Tie as tie
 
 is-mark-requires : tie.Need-is-mark-requires
 is-mark-requires c κs = let s = c .before .before in (s .pre .markers-ok, s .pre .carrier, s .pre .symbol)

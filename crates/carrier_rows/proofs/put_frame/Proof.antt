@@ -1,4 +1,4 @@
--- `rows::put_frame` meets its contract: the state is that after symbol k, and the symbols up to it are written. Assumes nothing.
+-- `carrier_rows::put_frame` meets its contract: the state is that after symbol k, and the symbols up to it are written. Assumes nothing.
 use Prim.Native.Nat.{ℕ, _+_, _-_, _*_, _<_, _≤_}
 use mathlib.Core.Path.{_≡_, refl, sym, ap, _∙_, subst}
 use mathlib.Core.List.{List}
@@ -11,17 +11,17 @@ use Rattle.complex.specs.Pairs.{cget, cset}
 use Rattle.level.specs.declared.Layout.{Layout}
 use Rattle.level.specs.SizedLaws.{sized}
 use Rattle.dat.specs.AcceptedLaws.{phasor-in}
-use Rattle.rows.specs.declared.Running.{Running}
-use Rattle.rows.specs.Symbols.{runningPoint, symbolOf, frameSymbol}
-use Rattle.rows.specs.Running.{runningAt, advanced}
-use Rattle.rows.proofs.RunningLaws.{start-is, advanced-is}
+use Rattle.carrier_rows.specs.declared.Running.{Running}
+use Rattle.carrier_rows.specs.Symbols.{runningPoint, symbolOf, frameSymbol}
+use Rattle.carrier_rows.specs.Running.{runningAt, advanced}
+use Rattle.carrier_rows.proofs.RunningLaws.{start-is, advanced-is}
 use Rattle.complex.specs.Stored.{storedFrom}
 use Rattle.complex.specs.StoredLaws.{stored-none, stored-length}
-use Rattle.rows.proofs.StoredRows.{stored-step, stored-first}
-use Rattle.rows.specs.Accepted.{FrameReady, CellReady}
-use Rattle.rows.proofs.Places.{phasors-small, cell-ready}
-use Rattle.rows.proofs.put_frame.Statement.{statement}
-use Rattle.rows.proofs.put_frame.Tie as tie
+use Rattle.carrier_rows.proofs.StoredRows.{stored-step, stored-first}
+use Rattle.carrier_rows.specs.Accepted.{FrameReady, CellReady}
+use Rattle.carrier_rows.proofs.Places.{phasors-small, cell-ready}
+use Rattle.carrier_rows.proofs.put_frame.Statement.{statement}
+use Rattle.carrier_rows.proofs.put_frame.Tie as tie
 
 module _ (l : Layout) (markers : List ℕ) (phasors : List Float) (payload draws : List ℕ) (c f at room : ℕ) (r : FrameReady l markers phasors payload draws c f at room) where
   nsym-is : (2 ≤ l .nsym) × (l .nsym ≤ 450)

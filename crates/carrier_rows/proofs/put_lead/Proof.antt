@@ -1,4 +1,4 @@
--- `rows::put_lead` meets its contract: the leads before k are written. Assumes nothing.
+-- `carrier_rows::put_lead` meets its contract: the leads before k are written. Assumes nothing.
 use Prim.Native.Nat.{ℕ, _+_, _-_, _*_, _<_, _≤_}
 use mathlib.Core.Path.{_≡_, refl, ap, _∙_}
 use mathlib.Core.List.{List}
@@ -14,14 +14,14 @@ use Rattle.level.specs.declared.Layout.{Layout}
 use Rattle.level.specs.Lengths.{rowLength}
 use Rattle.level.specs.SizedLaws.{sized}
 use Rattle.dat.specs.AcceptedLaws.{phasor-in}
-use Rattle.rows.specs.Symbols.{leadPoint, symbolOf, leadSymbol}
+use Rattle.carrier_rows.specs.Symbols.{leadPoint, symbolOf, leadSymbol}
 use Rattle.complex.specs.Stored.{storedFrom}
 use Rattle.complex.specs.StoredLaws.{stored-none, stored-length}
-use Rattle.rows.proofs.StoredRows.{stored-step, stored-same}
-use Rattle.rows.specs.Accepted.{LeadReady}
-use Rattle.rows.proofs.Places.{lead-drawn, draws-small, starts-small, phasors-small, row-room}
-use Rattle.rows.proofs.put_lead.Statement.{statement}
-use Rattle.rows.proofs.put_lead.Tie as tie
+use Rattle.carrier_rows.proofs.StoredRows.{stored-step, stored-same}
+use Rattle.carrier_rows.specs.Accepted.{LeadReady}
+use Rattle.carrier_rows.proofs.Places.{lead-drawn, draws-small, starts-small, phasors-small, row-room}
+use Rattle.carrier_rows.proofs.put_lead.Statement.{statement}
+use Rattle.carrier_rows.proofs.put_lead.Tie as tie
 
 module _ (l : Layout) (phasors : List Float) (frames : ℕ) (draws : List ℕ) (c room : ℕ) (r : LeadReady l phasors frames draws c room) where
   place-small : {k : ℕ} → k < 8 → frames * l .nc + (k * l .nc + c) ≤ 156

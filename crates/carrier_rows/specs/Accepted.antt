@@ -10,7 +10,7 @@ use Rattle.level.specs.Lengths.{rowLength}
 use Rattle.level.specs.Rows.{IsLayout}
 use Rattle.dat.specs.Tables.{marked}
 use Rattle.dat.specs.Accepted.{Markers, Phasors}
-use Rattle.rows.specs.Symbols.{Sending}
+use Rattle.carrier_rows.specs.Symbols.{Sending}
 
 -- draws that condition 10 accepts
 pub record Draws (l : Layout) (frames : ℕ) (draws : List ℕ) : Type 0 where

@@ -1,4 +1,4 @@
--- `rows::start` meets its contract: the reference point, and the carrier's first bit in the frame. Assumes nothing.
+-- `carrier_rows::start` meets its contract: the reference point, and the carrier's first bit in the frame. Assumes nothing.
 use Prim.Native.Nat.{ℕ, _+_, _*_, _<_, _≤_}
 use mathlib.Core.Path.{_≡_, refl}
 use mathlib.Core.List.{List}
@@ -11,10 +11,10 @@ use Rattle.level.specs.Lengths.{cells}
 use Rattle.level.specs.Rows.{IsLayout}
 use Rattle.level.specs.SizedLaws.{sized}
 use Rattle.dat.specs.AcceptedLaws.{rows-small}
-use Rattle.rows.specs.Symbols.{referencePoint}
-use Rattle.rows.specs.Running.{startOf}
-use Rattle.rows.proofs.start.Statement.{statement}
-use Rattle.rows.proofs.start.Tie as tie
+use Rattle.carrier_rows.specs.Symbols.{referencePoint}
+use Rattle.carrier_rows.specs.Running.{startOf}
+use Rattle.carrier_rows.proofs.start.Statement.{statement}
+use Rattle.carrier_rows.proofs.start.Tie as tie
 
 frames-small : (l : Layout) (f : ℕ) → IsLayout l → f < 4 → f * l .n ≤ 35776
 frames-small l f i F = mul-le-mul (le-of-lt F) (sized l i .n-most)

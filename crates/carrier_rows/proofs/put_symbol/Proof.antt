@@ -1,10 +1,10 @@
--- `rows::put_symbol` meets its contract: the symbol, stored. Assumes nothing.
+-- `carrier_rows::put_symbol` meets its contract: the symbol, stored. Assumes nothing.
 use mathlib.Core.Path.{ap, _∙_}
 use Rattle.complex.specs.Pairs.{cset}
-use Rattle.rows.specs.Symbols.{symbolOf}
+use Rattle.carrier_rows.specs.Symbols.{symbolOf}
 use borrow.Author.Needs.{needs}
-use Rattle.rows.proofs.put_symbol.Statement.{statement}
-use Rattle.rows.proofs.put_symbol.Tie as tie
+use Rattle.carrier_rows.proofs.put_symbol.Statement.{statement}
+use Rattle.carrier_rows.proofs.put_symbol.Tie as tie
 
 get-requires : tie.Need-get-requires
 get-requires c κs = search needs

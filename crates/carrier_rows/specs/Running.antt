@@ -8,8 +8,8 @@ use Rattle.constellation.specs.Label.{labelAt}
 use Rattle.level.specs.declared.Layout.{Layout}
 use Rattle.level.specs.Lengths.{cells}
 use Rattle.dat.specs.Tables.{marked}
-use Rattle.rows.specs.declared.Running.{Running}
-use Rattle.rows.specs.Symbols.{referencePoint, bitPlace, runningPoint}
+use Rattle.carrier_rows.specs.declared.Running.{Running}
+use Rattle.carrier_rows.specs.Symbols.{referencePoint, bitPlace, runningPoint}
 
 -- the state after symbol k
 unfoldable pub runningAt : Layout → List ℕ → List ℕ → List ℕ → ℕ → ℕ → ℕ → Running

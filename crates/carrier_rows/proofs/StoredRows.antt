@@ -11,7 +11,7 @@ use Rattle.complex.specs.declared.Complex.{Complex}
 use Rattle.complex.specs.Lists.{tabulate}
 use Rattle.complex.specs.Pairs.{cset, parts, cfilled}
 use Rattle.complex.specs.PairLaws.{cfilled-none, cfilled-step}
-use Rattle.rows.specs.Symbols.{inRows}
+use Rattle.carrier_rows.specs.Symbols.{inRows}
 use Rattle.complex.specs.Rows.{quotient, remainder}
 use Rattle.complex.specs.Stored.{storedFrom}
 use Rattle.complex.specs.StoredLaws.{stored-none, stored-ext, stored-join}

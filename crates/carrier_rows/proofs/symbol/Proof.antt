@@ -1,11 +1,11 @@
--- `rows::symbol` meets its contract: the definition's own operations. Assumes nothing.
+-- `carrier_rows::symbol` meets its contract: the definition's own operations. Assumes nothing.
 use mathlib.Core.Path.{ap, _∙_}
 use Rattle.complex.specs.declared.Complex.{Complex}
 use Rattle.complex.specs.Arithmetic.{cmul, cscale}
-use Rattle.rows.specs.Symbols.{symbolOf, symbolScale}
+use Rattle.carrier_rows.specs.Symbols.{symbolOf, symbolScale}
 use borrow.Author.Needs.{needs}
-use Rattle.rows.proofs.symbol.Statement.{statement}
-use Rattle.rows.proofs.symbol.Tie as tie
+use Rattle.carrier_rows.proofs.symbol.Statement.{statement}
+use Rattle.carrier_rows.proofs.symbol.Tie as tie
 
 conj-requires : tie.Need-conj-requires
 conj-requires c κs = search needs

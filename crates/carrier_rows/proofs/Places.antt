@@ -19,8 +19,8 @@ use Rattle.cells.specs.Cells.{cellsOf}
 use Rattle.cells.specs.Counts.{one, count-next, count-le, cells-count}
 use Rattle.dat.specs.Accepted.{Markers}
 use Rattle.dat.specs.AcceptedLaws.{rows-small, row-in}
-use Rattle.rows.specs.Symbols.{Sending, cellsBefore, cellNumber, bitPlace}
-use Rattle.rows.specs.Accepted.{Draws, Ready, Drawn, LeadReady, FrameReady, CellReady}
+use Rattle.carrier_rows.specs.Symbols.{Sending, cellsBefore, cellNumber, bitPlace}
+use Rattle.carrier_rows.specs.Accepted.{Draws, Ready, Drawn, LeadReady, FrameReady, CellReady}
 
 -- ---- draws and payload
 pub draws-small : (l : Layout) (frames : ℕ) → IsLayout l → frames ≤ 4 → l .nc * (frames + 8) ≤ 156

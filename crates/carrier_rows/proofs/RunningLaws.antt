@@ -14,9 +14,9 @@ use Rattle.level.specs.Lengths.{cells}
 use Rattle.dat.specs.Tables.{marked}
 use Rattle.cells.specs.Cells.{symbolsWhere}
 use Rattle.cells.specs.Counts.{one, count-step}
-use Rattle.rows.specs.declared.Running.{Running}
-use Rattle.rows.specs.Symbols.{cellsBefore, cellNumber, bitPlace, cellLabel, runningPoint}
-use Rattle.rows.specs.Running.{runningAt, startOf, advanced}
+use Rattle.carrier_rows.specs.declared.Running.{Running}
+use Rattle.carrier_rows.specs.Symbols.{cellsBefore, cellNumber, bitPlace, cellLabel, runningPoint}
+use Rattle.carrier_rows.specs.Running.{runningAt, startOf, advanced}
 
 -- ---- one symbol
 module _ (l : Layout) (markers payload : List ℕ) (c s : ℕ) (r : Running) where

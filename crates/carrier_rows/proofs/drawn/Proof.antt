@@ -1,9 +1,9 @@
--- `rows::drawn` meets its contract: the draw is a label. Assumes nothing.
+-- `carrier_rows::drawn` meets its contract: the draw is a label. Assumes nothing.
 use native.Mathlib.Omega.{arith}
 use Rattle.level.specs.SizedLaws.{sized}
 use borrow.Author.Needs.{needs}
-use Rattle.rows.proofs.drawn.Statement.{statement}
-use Rattle.rows.proofs.drawn.Tie as tie
+use Rattle.carrier_rows.proofs.drawn.Statement.{statement}
+use Rattle.carrier_rows.proofs.drawn.Tie as tie
 
 shared-slice-read-point : tie.Need-shared-slice-read-point
 shared-slice-read-point c = search needs
