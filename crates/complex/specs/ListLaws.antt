@@ -42,7 +42,8 @@ tabulate-getD l d =
     (rw (length-tabulate (λ (k : ℕ). getD l k d) (length l)) at h))
 
 -- a list in two pieces
-pub tabulate-join : {A : Type 0} (f : ℕ → A) (a b : ℕ) → tabulate f (a + b) ≡ tabulate f a ++ tabulate (λ k. f (a + k)) b
+pub tabulate-join : {A : Type 0} (f : ℕ → A) (a b : ℕ)
+    → tabulate f (a + b) ≡ tabulate f a ++ tabulate (λ k. f (a + k)) b
 unfolding tabulate
 tabulate-join f a zero = rw add-zero (sym (append-nil (tabulate f a)))
 tabulate-join f a (suc b) =

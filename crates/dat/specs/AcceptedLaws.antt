@@ -15,7 +15,8 @@ use Rattle.refusal.specs.AnyLaws.{any-below, any-false}
 use Rattle.refusal.specs.Clear.{neither, clear-first, clear-both}
 use Rattle.level.specs.declared.Layout.{Layout}
 use Rattle.level.specs.Sized.{Sized}
-use Rattle.dat.specs.Tables.{value, flag, marked, wrongLength, badValue, wrongValue, badFlag, wrongFlag, wrongCount}
+use Rattle.dat.specs.Tables.{value, flag, marked, wrongLength, badValue, wrongValue, badFlag}
+use Rattle.dat.specs.Tables.{wrongFlag, wrongCount}
 use Rattle.dat.specs.Tables.{wrongSize, markerFault, phasorFault, tableFault}
 use Rattle.dat.specs.Accepted.{Markers, Phasors, InTable}
 
