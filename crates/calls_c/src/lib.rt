@@ -1,6 +1,5 @@
 // The open calls for C that keep no state (include/dimpstea.h): each answers 0, or the number of the first condition
 // met.
-ghost use mathlib.Core.Path.{_≡_};
 ghost use Rattle.carrier_rows.specs.Symbols.{sending};
 ghost use Rattle.calls_c.specs.Calls.{ModulateCall, NcoPhaseCall, CarrierAudioCall, PayloadBitsCall, MeterCall};
 ghost use Rattle.calls_c.specs.Steps.{SoftStepCall, NearestPointCall};

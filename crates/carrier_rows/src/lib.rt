@@ -7,7 +7,7 @@ ghost use Rattle.complex.specs.Stored.{storedFrom};
 ghost use Rattle.constellation.specs.Alphabet.{pointOf};
 ghost use Rattle.level.specs.Lengths.{rowLength};
 ghost use Rattle.level.specs.Rows.{IsLayout};
-ghost use Rattle.carrier_rows.specs.Symbols.{sending, symbolOf, leadSymbol, frameSymbol, inRows};
+ghost use Rattle.carrier_rows.specs.Symbols.{symbolOf, leadSymbol, frameSymbol};
 ghost use Rattle.carrier_rows.specs.Running.{startOf, advanced};
 ghost use Rattle.carrier_rows.specs.Accepted.{Drawn, LeadReady, FrameReady, CellReady};
 use complex::Complex;

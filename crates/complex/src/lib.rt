@@ -3,7 +3,6 @@
 ghost use mathlib.Core.Path.{_≡_};
 ghost use Prim.Native.Nat.{_+_, _*_, _<_};
 ghost use lib.ListN.{length};
-ghost use lib.Ieee.{Float};
 ghost use Rattle.complex.specs.Arithmetic.{czero, cadd, cmul, cscale, cunscale, cconj, normSqr, cpow};
 ghost use Rattle.complex.specs.Pairs.{cget, cset};
 

@@ -4,7 +4,6 @@ ghost use Prim.Native.Nat.{_+_, _*_, _<_, _≤_};
 ghost use lib.ListN.{length};
 ghost use Rattle.complex.specs.Lists.{tabulate};
 ghost use Rattle.complex.specs.Pairs.{cfilled, parts};
-ghost use Rattle.level.specs.Sized.{Sized};
 ghost use Rattle.dat.specs.Accepted.{Phasors};
 ghost use Rattle.fir.specs.Fir.{IsTaps};
 ghost use Rattle.complex.specs.Stored.{storedFrom};

@@ -8,7 +8,6 @@ use native.Mathlib.Nat.{zero-add, zero-mul}
 use borrow.Author.Tests.{le-leb, lt-leb, leb-true, leb-false}
 use lib.Dec.{leb}
 use lib.Ieee.{Float}
-use Rattle.complex.specs.declared.Complex.{Complex}
 use Rattle.complex.specs.Arithmetic.{cmul, cconj, cscale}
 use Rattle.complex.specs.SumLaws.{sum-ext}
 use Rattle.complex.specs.Pairs.{cget, cfilled}

@@ -2,7 +2,6 @@
 use Prim.Native.Nat.{ℕ, _+_, _*_, _<_}
 use mathlib.Core.Path.{_≡_}
 use lib.ListN.{length, getD}
-use Rattle.complex.specs.Lists.{tabulate}
 use Rattle.complex.specs.ListLaws.{length-tabulate, getD-tabulate}
 use Rattle.level.specs.Even.{progression}
 

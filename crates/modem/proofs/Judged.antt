@@ -3,7 +3,7 @@
 use Prim.Native.Nat.{ℕ, _+_, _*_, _/_, _%_, _^_, _≤_}
 use mathlib.Core.Path.{_≡_, refl, sym, _∙_}
 use mathlib.Core.Bool.{Bool, true, false, not, or-true}
-use mathlib.Core.List.{List, [], _∷_}
+use mathlib.Core.List.{List, []}
 use native.Mathlib.Omega.{arith}
 use lib.Dec.{ltb, eqb}
 use lib.ListN.{length}
@@ -12,7 +12,7 @@ use borrow.Author.Tests.{ltb-false, eq-eqb}
 use Rattle.refusal.specs.declared.Refusal.the-variants as no
 use Rattle.refusal.specs.declared.Fault.{Fault}
 use Rattle.refusal.specs.declared.Fault.the-variants.{Clear, Met}
-use Rattle.refusal.specs.Outcome.{Outcome, refused, answered, andThen, orElse, judged, firstFault}
+use Rattle.refusal.specs.Outcome.{Outcome, refused, answered, andThen, judged}
 use Rattle.refusal.specs.Clear.{neither, clear-first, clear-both}
 use Rattle.complex.specs.PairLaws.{complexes-length}
 use Rattle.level.specs.declared.Layout.{Layout}
@@ -26,7 +26,7 @@ use Rattle.state.specs.declared.State.{State}
 use Rattle.rx.specs.Receiver.{Feed, fed}
 use Rattle.rx.specs.View.{view}
 use Rattle.state.specs.Conditions.{spanEnd, otherLayout, wrongState}
-use Rattle.feed_fault.specs.Conditions.{wrongBook, wrongSamples, wrongNumber, wrongParts}
+use Rattle.feed_fault.specs.Conditions.{wrongBook, wrongSamples, wrongNumber}
 use Rattle.feed_fault.specs.Faults.{sampleFault}
 use Rattle.rx.specs.Feed.{Given, feedFault, feedOf, feedOutcome}
 use Rattle.rx.specs.Sound.{equal-of, Sound, not-wrong}

@@ -3,7 +3,7 @@ use Prim.Native.Nat.{ℕ}
 use mathlib.Core.Path.{_≡_}
 use mathlib.Core.List.{List}
 use lib.Ieee.{Float}
-use Rattle.refusal.specs.Outcome.{Outcome, answered, done, after, outcome}
+use Rattle.refusal.specs.Outcome.{Outcome, done, after, outcome}
 use Rattle.level.specs.declared.Layout.{Layout}
 use Rattle.refusal.specs.declared.Answer.{Answer}
 use Rattle.nco.specs.Phase.{phasesAfter}

@@ -1,7 +1,7 @@
 // The carriers' phases at 48 kHz (01, "Beside the chain"; `nco_phase` of hf/psk.rs).
 ghost use mathlib.Core.Path.{_≡_};
 ghost use mathlib.Core.Bool.{not};
-ghost use Prim.Native.Nat.{_+_, _*_, _<_, _≤_};
+ghost use Prim.Native.Nat.{_+_, _*_, _<_};
 ghost use lib.Dec.{eqb};
 ghost use lib.ListN.{length};
 ghost use Rattle.complex.specs.Lists.{tabulate};

@@ -2,11 +2,9 @@
 // tracks.
 ghost use mathlib.Core.Path.{_≡_};
 ghost use mathlib.Core.List.{[]};
-ghost use Prim.Native.Nat.{_+_, _*_, _≤_};
+ghost use Prim.Native.Nat.{_*_};
 ghost use lib.ListN.{length};
-ghost use Rattle.complex.specs.Pairs.{pairs, parts};
-ghost use Rattle.symbols.specs.Symbols.{symbolsAt};
-ghost use Rattle.symbols.specs.Standing.{samplesIn, filteredIn};
+ghost use Rattle.complex.specs.Pairs.{pairs};
 ghost use Rattle.decode.specs.Places.{Framed};
 ghost use Rattle.reading.specs.Reading.{located};
 ghost use Rattle.reading.specs.Read.{asked, rowsIn, LocatedBy, ReadBy};

@@ -5,7 +5,6 @@ ghost use Prim.Native.Nat.{_+_, _*_, _/_, _%_, _^_, _<_, _≤_};
 ghost use lib.ListN.{length};
 ghost use Rattle.level.specs.Rows.{IsLayout};
 ghost use Rattle.level.specs.Sized.{Sized};
-ghost use Rattle.level.specs.Lengths.{rowLength};
 ghost use Rattle.replay_inputs.specs.Table.{entries, rowNumbers};
 use complex::Complex;
 use level::Chosen;

@@ -1,5 +1,4 @@
 -- The call has one answer: of an accepted sum, the only index that fits. Assumes nothing.
-use Prim.Native.Nat.{ℕ}
 use mathlib.Core.Path.{_≡_, sym, _∙_}
 use mathlib.Core.Bool.{Bool, true, false, not, _||_, true≢false}
 use Rattle.laws.specs.Tests.{inSize}

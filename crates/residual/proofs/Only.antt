@@ -4,7 +4,6 @@ use mathlib.Core.Path.{_≡_, refl}
 use mathlib.Core.Bool.{Bool, true, false}
 use native.Mathlib.Nat.{mul-pos, mul-le-mul-right, mul-lt-mul-of-pos-right, lt-of-mul-lt-mul-right, mul-right-comm}
 use native.Mathlib.Nat.{mul-comm}
-use native.Mathlib.Nat.{zero-mul}
 use native.Mathlib.Numerals.{add-one}
 use native.Mathlib.Omega.{arith}
 use lib.Dec.{T, ltb, leb, lt→ltb}
@@ -15,7 +14,7 @@ use Rattle.residual.specs.Directions.{Whole, whole, cosine, sine, cross,
 use Rattle.residual.specs.Residual.{bothZero, Index}
 use Rattle.residual.specs.Parts.{Last}
 use Rattle.residual.specs.OneIndex.{OneIndex, ExactlyOneIndex}
-use Rattle.residual.proofs.TableLaws.{rising, cosine-pos, sine-first, cosine-last, sine-last}
+use Rattle.residual.proofs.TableLaws.{rising, cosine-pos}
 use Rattle.residual.proofs.Turning.{cross-turn, dot-turn, onward, onward-below, onward-same, cross-onward}
 use Rattle.residual.proofs.Turning.{dot-onward, cross-alike, dot-alike}
 use Rattle.residual.proofs.Turning.{not-negative, negative, from-not-negative, from-negative, natural}

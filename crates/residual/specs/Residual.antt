@@ -1,5 +1,5 @@
 -- The frequency residual of a pilot sum (02, U3). Definitions only.
-use Prim.Native.Nat.{ℕ, zero, _<_}
+use Prim.Native.Nat.{ℕ, _<_}
 use mathlib.Core.Path.{_≡_}
 use mathlib.Core.Bool.{Bool, true, false, not, cond, _&&_, _||_}
 use lib.Dec.{eqb, ltb}

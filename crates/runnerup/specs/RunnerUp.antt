@@ -4,7 +4,7 @@ use mathlib.Core.Path.{_≡_}
 use mathlib.Core.Bool.{true}
 use mathlib.Core.List.{List}
 use lib.Dec.{T}
-use lib.Ieee.{Float, le}
+use lib.Ieee.{le}
 use Rattle.refusal.specs.declared.Fault.the-variants.{Clear}
 use Rattle.complex.specs.declared.Complex.{Complex}
 use Rattle.laws.specs.Floats.{plain}

@@ -1,8 +1,7 @@
 // The receiver (01, "Tracks and filter", "Search and hold"; rx/psk.rs).
 ghost use mathlib.Core.Path.{_≡_};
-ghost use Prim.Native.Nat.{_-_, _/_, _≤_, _^_};
+ghost use Prim.Native.Nat.{_-_, _/_};
 ghost use lib.ListN.{length};
-ghost use Rattle.level.specs.Sized.{Sized};
 ghost use Rattle.dat.specs.Accepted.{Markers, Phasors};
 ghost use Rattle.rx.specs.Feed.{given, FedBy};
 ghost use Rattle.rx.specs.Numbers.{endWith};
@@ -10,7 +9,6 @@ ghost use Rattle.rx.specs.Ready.{Ready};
 ghost use Rattle.rx.specs.Fed.{FollowedBy, SearchOnFits, SearchedOn, AcceptedBy};
 ghost use Rattle.state.specs.Conditions.{spanEnd};
 use filter::Spans;
-use hold::Hold;
 use hold::Release;
 use level::Chosen;
 use level::Layout;

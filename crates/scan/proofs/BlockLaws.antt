@@ -11,7 +11,7 @@ use lib.Seq.{take-suc, take-all}
 use borrow.Author.Tests.{leb-true, leb-false}
 use Rattle.scan.specs.declared.Scan.{Scan}
 use Rattle.scan.specs.Words.{separator, word, wordsFrom, words}
-use Rattle.scan.specs.Tokens.{Token, token}
+use Rattle.scan.specs.Tokens.{token}
 use Rattle.scan.specs.Scan.{tokenIn, tokensIn, begun, grown, tokenOn, ahead, Holds, Pushes, Continues}
 use Rattle.scan.specs.Scan.{ReadsTokens, Finishes}
 use Rattle.scan.proofs.ScanLaws.{ahead-skip, ahead-begin, ahead-on, put, too-many, goes-on, ends}

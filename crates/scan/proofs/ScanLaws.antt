@@ -1,20 +1,20 @@
 -- Laws of words and tokens, byte by byte. Assumes nothing.
 use mathlib.Core.Path.{_≡_, refl, sym, ap, _∙_}
 use mathlib.Core.Bool.{Bool, true, false, cond, _&&_}
-use mathlib.Core.List.{List, [], _∷_, _++_, map, map-append, append-assoc, append-nil}
+use mathlib.Core.List.{List, [], _∷_, _++_, map, map-append, append-assoc}
 use Prim.Native.Nat.{ℕ, suc, _+_, _-_, _*_, _≤_, _<_, _^_}
 use native.Mathlib.Numerals.{add-one}
 use native.Mathlib.Omega.{arith}
 use lib.Dec.{leb, eqb}
 use lib.ListN.{length, getD, take, drop, set, length-append, length-map, length-set}
-use lib.Seq.{drop-cons, take-suc, take-all, take-suc-set, length-take-le}
-use borrow.Author.Tests.{le-leb, lt-leb, leb-true, leb-false, ne-eqb, eqb-true}
+use lib.Seq.{drop-cons, take-suc-set, length-take-le}
+use borrow.Author.Tests.{le-leb, lt-leb, leb-true, leb-false, eqb-true}
 use Rattle.laws.specs.Order.{clash}
 use Rattle.scan.specs.declared.Scan.{Scan}
 use Rattle.scan.specs.Words.{separator, word, wordsFrom, words}
 use Rattle.scan.specs.Numbers.{digit, allDigits, valueAfter}
-use Rattle.scan.specs.Tokens.{Token, number, dash, other, isDash, limited, token}
-use Rattle.scan.specs.Scan.{tokenIn, tokensIn, begun, grown, tokenOn, ahead, Holds, Pushes, Continues, ReadsTokens}
+use Rattle.scan.specs.Tokens.{Token, number, other, isDash, limited, token}
+use Rattle.scan.specs.Scan.{tokenIn, tokensIn, begun, grown, tokenOn, ahead, Holds, Pushes}
 
 -- two entries more of a list of pairs
 pub drop-two : (l : List ℕ) (k : ℕ) → 2 * k + 1 < length l → drop (2 * k) l ≡ getD l (2 * k) 0 ∷ getD l (2 * k + 1) 0 ∷ drop (2 * (k + 1)) l

@@ -1,7 +1,6 @@
 -- Products that agree have the same median. Assumes nothing.
 use Prim.Native.Nat.{ℕ, zero, suc, _<_}
-use mathlib.Core.Path.{_≡_, refl, ap, ap₂, _∙_}
-use mathlib.Core.List.{List}
+use mathlib.Core.Path.{_≡_, refl, ap, ap₂}
 use native.Mathlib.Omega.{arith}
 use lib.Ieee.{Float}
 use Rattle.complex.specs.declared.Complex.{Complex}

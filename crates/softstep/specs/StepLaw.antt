@@ -1,7 +1,7 @@
 -- What the soft bits of one step say, over the size of the alphabet (02, U11). Definitions only.
 use Prim.Native.Nat.{ℕ, _+_, _-_, _*_, _^_, _≤_, _<_}
 use mathlib.Core.Path.{_≡_}
-use mathlib.Core.Bool.{Bool, cond, Bool·beq}
+use mathlib.Core.Bool.{cond, Bool·beq}
 use mathlib.Core.List.{List}
 use mathlib.Core.Logic.{_⊎_}
 use lib.Dec.{T}

@@ -1,7 +1,7 @@
 // The symbols of a frame, from the filtered tracks or from samples turned by drift rows (01, "Reading"; `symbols` of
 // rx/psk.rs).
 ghost use mathlib.Core.Path.{_≡_};
-ghost use Prim.Native.Nat.{_+_, _*_, _<_, _≤_};
+ghost use Prim.Native.Nat.{_+_, _*_, _<_};
 ghost use lib.ListN.{length};
 ghost use Rattle.complex.specs.Lists.{tabulate};
 ghost use Rattle.complex.specs.Pairs.{parts};

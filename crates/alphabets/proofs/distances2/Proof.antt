@@ -1,5 +1,5 @@
 -- `alphabets::distances2` meets its contract: each sum of two squares is the distance from a point. Assumes nothing.
-use mathlib.Core.Path.{_≡_, refl}
+use mathlib.Core.Path.{refl}
 use borrow.Author.Needs.{needs}
 use lib.Ieee.{ofBits, neg}
 use Rattle.complex.specs.Arithmetic.{normSqr}

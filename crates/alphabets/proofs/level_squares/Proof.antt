@@ -1,5 +1,5 @@
 -- `alphabets::level_squares` meets its contract: the code's literals are the levels' patterns. Assumes nothing.
-use mathlib.Core.Path.{_≡_, refl}
+use mathlib.Core.Path.{refl}
 use borrow.Author.Needs.{needs}
 use lib.Ieee.{ofBits, neg}
 use Rattle.alphabets.proofs.level_squares.Statement.{statement}

@@ -1,5 +1,5 @@
 -- `alphabets::sums32` meets its contract: each sum of two squares is the distance from a point. Assumes nothing.
-use mathlib.Core.Path.{_≡_, refl}
+use mathlib.Core.Path.{refl}
 use lib.Ieee.{ofBits, neg}
 use Rattle.complex.specs.Arithmetic.{normSqr}
 use Rattle.demap.specs.Nearest.{distSqr}

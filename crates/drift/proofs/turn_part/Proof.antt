@@ -1,6 +1,5 @@
 -- `drift::turn_part` meets its contract: where all samples are in the track, they are numbers of the memory. Assumes nothing.
 use Prim.Native.Nat.{_+_, _-_}
-use native.Mathlib.Omega.{arith}
 use Rattle.drift.specs.DriftLaws.{samples-inside, turned-inside}
 use borrow.Author.Needs.{needs}
 use Rattle.drift.proofs.turn_part.Statement.{statement}

@@ -1,5 +1,4 @@
 -- `holdtrial::read_all` is safe and ends. The measure is the number of turns that are left. Assumes nothing.
-use Prim.Native.Nat.{ℕ}
 use mathlib.Core.Path.{_≡_, refl}
 use native.Mathlib.Omega.{arith}
 use borrow.Author.Needs.{needs}

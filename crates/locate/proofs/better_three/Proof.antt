@@ -1,6 +1,6 @@
 -- `locate::better_three` meets its contract: one position after the other. Assumes nothing.
 use Prim.Native.Nat.{_+_}
-use mathlib.Core.Path.{_≡_, ap, _∙_}
+use mathlib.Core.Path.{ap, _∙_}
 use Rattle.locate.specs.declared.Located.{Located}
 use Rattle.locate.specs.Locate.{betterOf}
 use borrow.Author.Needs.{needs}

@@ -6,7 +6,6 @@ use native.Mathlib.Numerals.{add-one}
 use lib.ListN.{length, getD, set, drop, length-set, length-drop}
 use lib.Seq.{paste, paste-zero, paste-suc, getD-drop}
 use lib.Ieee.{Float, nan}
-use borrow.Author.Needs.{needs}
 use native.Mathlib.Omega.{arith}
 use Rattle.order.proofs.copy.Statement.{statement}
 use Rattle.order.proofs.copy.Tie as tie

@@ -4,7 +4,7 @@ use mathlib.Core.Path.{_≡_, sym, ap, _∙_}
 use native.Mathlib.Omega.{arith}
 use borrow.Author.Needs.{needs}
 use lib.ListN.{getD}
-use Rattle.refusal.specs.Outcome.{Outcome, refused, answered}
+use Rattle.refusal.specs.Outcome.{refused, answered}
 use Rattle.level.specs.declared.Layout.{Layout}
 use Rattle.level.specs.Layout.{layoutOf, chosen, outcome}
 use Rattle.page.specs.Page.{lineByte, page, rowAt, bandwidthAt, recordAt}

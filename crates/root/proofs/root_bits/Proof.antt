@@ -1,16 +1,10 @@
 -- `root::root_bits` meets its contract. The loop's invariant: m * 4 ^ h is the value, in units, times 2 ^ 1074, so its root is the result in units. Assumes nothing.
-use mathlib.Core.Path.{_≡_, refl, sym, ap, _∙_, subst}
+use mathlib.Core.Path.{_≡_, sym, ap, _∙_, subst}
 use mathlib.Core.Logic.{⊎-elim}
-use Prim.Native.Nat.{ℕ, zero, suc, _+_, _-_, _*_, _/_, _%_, _^_, _≤_, _<_}
-use native.Mathlib.Nat.{le-trans, le-of-eq, lt-of-le-of-lt, lt-of-not-le, not-le-of-lt, mul-assoc, one-mul, mul-le-mul, mul-le-mul-right, mul-pos, pow-succ'}
+use Prim.Native.Nat.{ℕ, suc, _+_, _-_, _*_, _/_, _%_, _^_, _≤_, _<_}
+use native.Mathlib.Nat.{mul-assoc, pow-succ'}
 use native.Mathlib.Omega.{arith}
-use lib.Dec.{lit≤, lit<}
-use lib.Pow.{pow-add, pow-pos, pow-mono}
-use lib.Ieee.{binary64, ofBits}
-use Rattle.root.specs.Root.{rootUnits, sqrtOf}
-use Rattle.root.specs.Squares.{root-lt, root-le, four-pow}
-use Rattle.root.specs.WholeRoot.{IsRoot}
-use Rattle.root.specs.RootUnits.{root-at}
+use Rattle.root.specs.Root.{rootUnits}
 use Rattle.root.proofs.Scaled.{Inv, moved, small, start-low, start-high, high, root-hi, end}
 use Rattle.root.proofs.root_bits.Statement.{statement}
 use Rattle.root.proofs.root_bits.Tie as tie

@@ -1,6 +1,6 @@
 -- `runnerup::rank_points` meets its contract: the ranking by the distances of the alphabet's points. Assumes nothing.
 use Prim.Native.Nat.{ℕ}
-use mathlib.Core.Path.{_≡_, refl, ap, _∙_}
+use mathlib.Core.Path.{_≡_, ap, _∙_}
 use mathlib.Core.List.{List}
 use native.Mathlib.Omega.{arith}
 use borrow.Author.Needs.{needs}
@@ -9,7 +9,7 @@ use lib.Ieee.{Float}
 use Rattle.complex.specs.declared.Complex.{Complex}
 use Rattle.demap.specs.Nearest.{distSqr, pointAt, nearestOf, nearest}
 use Rattle.alphabets.specs.Alphabets.{points}
-use Rattle.alphabets.specs.Distances.{distancesFrom, distanceAt}
+use Rattle.alphabets.specs.Distances.{distancesFrom}
 use Rattle.alphabets.specs.DistanceLaws.{distances-are, distances-length}
 use Rattle.runnerup.specs.declared.Ranked.{Ranked}
 use Rattle.runnerup.specs.Ranked.{rankedBy, rankedTo, rankedIn}

@@ -1,5 +1,5 @@
 -- `scan::scan_byte` meets its contract. Assumes nothing.
-use mathlib.Core.Path.{_≡_, refl, sym, _∙_}
+use mathlib.Core.Path.{refl, sym, _∙_}
 use borrow.Author.Needs.{needs}
 use borrow.Author.Tests.{not-true, not-false}
 use Rattle.scan.proofs.BlockLaws.{step-skip, step-end, step-on, step-begin}

@@ -1,5 +1,4 @@
 -- `softstep::least` meets its contract: each alphabet's own. Assumes nothing.
-use Prim.Native.Nat.{ℕ}
 use mathlib.Core.Path.{_≡_}
 use native.Mathlib.Omega.{arith}
 use Rattle.softstep.proofs.least.Statement.{statement}

@@ -6,7 +6,7 @@ use mathlib.Core.List.{List}
 use borrow.Author.Needs.{needs}
 use borrow.Author.Tests.{eq-eqb, ne-eqb}
 use lib.ListN.{length}
-use lib.Ieee.{Float, ofBits}
+use lib.Ieee.{Float}
 use Rattle.refusal.specs.declared.Refusal.{Refusal}
 use Rattle.refusal.specs.declared.Answer.the-variants.{Done, Refused}
 use Rattle.refusal.specs.Refusal.{numberOf}

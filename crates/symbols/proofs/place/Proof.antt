@@ -3,7 +3,7 @@ use Prim.Native.Nat.{ℕ, _+_, _-_, _*_}
 use mathlib.Core.Path.{_≡_, ap₂}
 use native.Mathlib.Omega.{arith}
 use Rattle.level.specs.Layout.{stagger}
-use Rattle.level.specs.SizedLaws.{sized, stagger-within}
+use Rattle.level.specs.SizedLaws.{sized}
 use Rattle.symbols.specs.FilteredLaws.{part-small, behind-small}
 use borrow.Author.Needs.{needs}
 use Rattle.symbols.proofs.place.Statement.{statement}

@@ -1,8 +1,7 @@
 -- `trial::answer_scan` meets its contract. Assumes nothing.
-use mathlib.Core.Path.{_≡_, sym, _∙_}
+use mathlib.Core.Path.{sym}
 use native.Mathlib.Omega.{arith}
 use borrow.Author.Needs.{needs}
-use lib.ListN.{length, take}
 use lib.Seq.{length-take-le}
 use Rattle.trial.proofs.PrintLaws.{prints}
 use Rattle.trial.proofs.AnswerLaws.{printed-too-many, printed-read}
