@@ -68,30 +68,6 @@ pub fn read_plain(
     read(name, markers, phasors, s, memory, t0, rows, payload, first);
 }
 
-fn feed(
-    markers: &[u16],
-    phasors: &[f64],
-    book: &[f64],
-    s: State,
-    memory: &mut [f64],
-    signal: &[f64],
-    first: usize,
-    last: usize,
-) -> Fed {
-    feeding::feed(
-        500,
-        4,
-        markers,
-        phasors,
-        book,
-        s,
-        memory,
-        signal,
-        first,
-        last,
-    )
-}
-
 // The first frame after 16,000 samples; located too.
 fn first_frame(
     name: &[u8],
@@ -103,7 +79,18 @@ fn first_frame(
     signal: &[f64],
     payload: &[u8],
 ) -> Fed {
-    let f = feed(markers, phasors, book, opened, memory, signal, 0, 32000);
+    let f = feeding::feed(
+        500,
+        4,
+        markers,
+        phasors,
+        book,
+        opened,
+        memory,
+        signal,
+        0,
+        32000,
+    );
     let s = f.state;
     read_plain(name, markers, phasors, s, memory, f.detected, payload, 0);
     shown::locate(500, 4, markers, phasors, s, memory, f.detected);
@@ -122,7 +109,18 @@ fn later(
 ) -> State {
     let name = b"the same, two feeds later";
     let t = before.state;
-    let f = feed(markers, phasors, book, t, memory, signal, 32000, 48000);
+    let f = feeding::feed(
+        500,
+        4,
+        markers,
+        phasors,
+        book,
+        t,
+        memory,
+        signal,
+        32000,
+        48000,
+    );
     let s = f.state;
     let t0 = before.detected;
     read_plain(name, markers, phasors, s, memory, t0, payload, 0);
@@ -140,7 +138,18 @@ fn second_frame(
     payload: &[u8],
 ) -> State {
     let name = b"the second frame";
-    let f = feed(markers, phasors, book, before, memory, signal, 48000, 53600);
+    let f = feeding::feed(
+        500,
+        4,
+        markers,
+        phasors,
+        book,
+        before,
+        memory,
+        signal,
+        48000,
+        53600,
+    );
     let s = f.state;
     let t0 = f.detected;
     read_plain(name, markers, phasors, s, memory, t0, payload, 748);
