@@ -18,7 +18,7 @@ unfoldable pub meanNorm : (ℕ → Complex) → ℕ → Float
 unfolding sumOfNorms div ofInt
 meanNorm u n = div binary64 (sumOfNorms u n) (ofInt binary64 (pos n))
 
--- proved as `mean-eps`: the Rust's `+ eps`, with eps = 0.0, changes no mean norm
+-- proved as `mean-eps`: the Rust's `+ eps`, with eps = 0.0, changes no mean norm of 1 to 2^53 steps
 unfoldable pub MeanEps : Type 0
 MeanEps =
     (u : ℕ → Complex) (n : ℕ) → 0 < n → n ≤ 2 ^ prec binary64

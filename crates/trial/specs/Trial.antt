@@ -77,8 +77,8 @@ answer (some t) = report (releases (freshHold (t .hold) (t .dead)) (t .offers))
 unfoldable pub printed : List ℕ → List ℕ
 printed text = answer (trialOf (map token (words text)))
 
--- proved as `reads-back`: a number that is printed reads back as that number, and the metric that is printed is the
--- one that was offered
+-- proved as `reads-back`: a number that is printed reads back as that number, and a metric is printed as it was
+-- offered
 pub record ReadsBack : Type 0 where
   pub decimals : (n : ℕ) → n ≤ 2 ^ 48 → token (decimal n) ≡ number n
   pub metrics : (n : ℕ) → n ≤ 2 ^ 48 → toUnsigned 64 (wholeMetric n) ≡ n
