@@ -9,7 +9,7 @@ use refusal::Position;
 use rx::{FeedAnswer, FeedResult, State};
 
 // How a signal is cut: feeds of 4,000, of drawn lengths, or many small ones; each has empty ones too.
-#[derive(Drop)]
+#[derive(Clone, Copy)]
 pub enum Rule {
     Even,
     Drawn,
@@ -18,7 +18,7 @@ pub enum Rule {
 
 // What has been fed: how many samples, the places of the log that are taken, and whether each feed was answered as it
 // should be.
-#[derive(Drop)]
+#[derive(Clone, Copy)]
 pub struct Progress {
     pub fed: usize,
     pub logged: usize,

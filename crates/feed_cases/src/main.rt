@@ -1,5 +1,8 @@
 // One signal of two frames, fed in three cuttings to receivers over memory of other content: each finds the same
 // detections.
+
+#![tactic(auto)]
+
 ghost use Rattle.std.specs.Prelude.{◌^◌, ◌≤◌, length};
 
 mod feeds;

@@ -1,9 +1,12 @@
 // Reads a trial of the hold, and prints its releases or `bad` (01, "Beside the chain").
+
+#![tactic(auto)]
+
 use libc::{STDIN_FILENO, STDOUT_FILENO};
 use scan::Scan;
 
 // After a read: more may come, the input has ended, or it couldn't be read.
-#[derive(Drop)]
+#[derive(Clone, Copy)]
 enum Next {
     More(Scan),
     Ended(Scan),

@@ -1,4 +1,7 @@
 // Prints the layout page (02, U14). Reads nothing.
+
+#![tactic(auto)]
+
 use libc::STDOUT_FILENO;
 
 fn main() {

@@ -1,4 +1,7 @@
 // Readings in the layout 500/6, of one frame of 2,172 bits: as sent, with a damaged cell, and of ties.
+
+#![tactic(auto)]
+
 use opening::OpenAnswer;
 use reading_shown::{change, feeding, sent, shown};
 use refusal::Position;

@@ -1,4 +1,7 @@
 // Readings in the layout 500/4: of frames as they were sent, of a damaged one and of ties, and what is refused.
+
+#![tactic(auto)]
+
 mod four;
 mod refused;
 

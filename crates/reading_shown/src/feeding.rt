@@ -6,7 +6,7 @@ use refusal::Position;
 use rx::{FeedAnswer, State};
 
 // What feeds leave: the state, and the position of the last release, or 0.
-#[derive(Drop)]
+#[derive(Clone, Copy)]
 pub struct Fed {
     pub state: State,
     pub detected: u64,

@@ -1,4 +1,7 @@
 // Calls that meet a condition, one after the other: the number that each is answered, or 00 where it is accepted.
+
+#![tactic(auto)]
+
 use hold::{Block, Candidate, Held, Hold};
 use level::Chosen;
 use libc::STDOUT_FILENO;

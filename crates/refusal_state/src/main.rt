@@ -1,6 +1,9 @@
 // Refused feeds against a receiver that holds a candidate: each answers its number, and leaves state and memory as
 // they were. Both comparisons can fail: the feeds that are accepted, printed as 0, say `both different`, and a refused
 // one that changed a field of the state or a number of the memory would say which.
+
+#![tactic(auto)]
+
 ghost use Rattle.std.specs.Prelude.{◌≡◌, ◌*◌, ◌<◌, ◌≤◌, length};
 
 mod kept;

@@ -1,4 +1,7 @@
 // What the programs that replay share: one frame sent in a layout, and how numbers, detections and refusals are shown.
+
+#![tactic(auto)]
+
 ghost use Rattle.std.specs.Prelude.{◌≡◌, length};
 
 use level::Chosen;

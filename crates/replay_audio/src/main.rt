@@ -1,5 +1,8 @@
 // The 48 kHz signal of one frame in the layouts 500/4 and 500/6, at three windows each: its start, its middle and its
 // end.
+
+#![tactic(auto)]
+
 ghost use Rattle.std.specs.Prelude.{◌≡◌, ◌*◌, ◌≤◌, length};
 ghost use Rattle.replay_audio.specs.Within.{Within};
 
@@ -7,7 +10,7 @@ use libc::STDOUT_FILENO;
 use refusal::{Answer, Place};
 
 // A window from place 4,000 × `lead` on, of whose samples the last `shown` are printed.
-#[derive(Drop)]
+#[derive(Clone, Copy)]
 struct Window {
     lead: usize,
     len: usize,

@@ -1,5 +1,8 @@
 // The detections in a signal of two frames in the layout 500/6, from feeds of 4,000 samples to a receiver over memory
 // of no numbers.
+
+#![tactic(auto)]
+
 ghost use Rattle.std.specs.Prelude.{◌^◌, ◌<◌, ◌≤◌, length};
 
 use hold::Release;

@@ -1,5 +1,8 @@
 // Readings in the layout 500/4, of two frames with noise at their detections: the first with no drift rows, and with
 // rows that turn by 1 Hz more than the book; the second with none. Every number and every soft bit is shown.
+
+#![tactic(auto)]
+
 use libc::STDOUT_FILENO;
 use opening::OpenAnswer;
 use reading::ReadAnswer;

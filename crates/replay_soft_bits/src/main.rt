@@ -1,6 +1,9 @@
 // What a reading with no drift rows gives for a frame in the layouts 2300/7 and 2750/10, from the located frame on:
 // its symbols, then every number measured and every soft bit. `reading::read` needs the receiver's memory, 10.6 and
 // 22 MB there, and a program's stack has 8 MB.
+
+#![tactic(auto)]
+
 ghost use Rattle.std.specs.Prelude.{◌≡◌, ◌*◌, ◌^◌, ◌≤◌, length};
 ghost use Rattle.level.specs.Rows.{IsLayout};
 ghost use Rattle.replay_inputs.specs.Table.{entries, row_numbers};

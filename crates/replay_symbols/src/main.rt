@@ -1,4 +1,7 @@
 // The symbols of one frame in the layouts 500/4 and 500/6, each by the bits of its two parts.
+
+#![tactic(auto)]
+
 use libc::STDOUT_FILENO;
 
 fn show(rows: &[f64]) {

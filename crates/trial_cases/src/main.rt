@@ -1,4 +1,7 @@
 // Inputs of `holdtrial` at the edges of its form: each answer is printed after the other.
+
+#![tactic(auto)]
+
 ghost use Rattle.std.specs.Prelude.{◌≤◌, length};
 
 use libc::STDOUT_FILENO;
