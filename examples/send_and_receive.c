@@ -2,8 +2,7 @@
  * One frame of the layout 500/4 sent and received: symbols by dimpstea_modulate, made into 3 kHz samples here, fed in
  * pieces of 1,000, located and read where it is detected. Prints where it was found and how many payload bits differ.
  *
- *     rt staticlib calls_c
- *     rt staticlib modem_c
+ *     host/archives
  *     cc -O2 -Iinclude examples/send_and_receive.c -Ltarget/staticlib -lcalls_c -lmodem_c -lm -o send_and_receive
  */
 #include "dimpstea.h"

@@ -1,5 +1,5 @@
 //! Links the proved static libraries, libcalls_c.a and libmodem_c.a: from the folder whose absolute path DIMPSTEA_LIB
-//! has, or else from target/staticlib of the repository, where `rt staticlib calls_c` and `modem_c` write them.
+//! has, or else from target/staticlib of the repository, where `host/archives` writes them.
 use std::{env, path::PathBuf};
 
 fn main() {
@@ -14,7 +14,7 @@ fn main() {
         println!("cargo:rerun-if-changed={}", archive.display());
         assert!(
             archive.exists(),
-            "{} is missing: run `rt staticlib {library}` in the repository, or set DIMPSTEA_LIB to the folder that has it",
+            "{} is missing: run `host/archives` in the repository, or set DIMPSTEA_LIB to the folder that has it",
             archive.display()
         );
         println!("cargo:rustc-link-lib=static={library}");

@@ -1,6 +1,6 @@
 /*
- * The open calls of the PSK modem, for C. Link with libcalls_c.a and libmodem_c.a (`rt staticlib calls_c`,
- * `rt staticlib modem_c`).
+ * The open calls of the PSK modem, for C. Link with libcalls_c.a and libmodem_c.a, which `host/archives` builds:
+ * they need a processor with SSE4.2 (x86-64-v2), which nothing tests.
  *
  * Every call answers 0, or the number of the first condition met in document 01, "Where each fault is
  * met" (their words are below). After a refusal nothing lent has changed, save the scratch after 24. No call keeps a
