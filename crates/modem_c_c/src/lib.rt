@@ -1,5 +1,5 @@
-// The archive for C of modem_c (include/dimpstea.h): its calls, exported under their own names, each with the clauses of
-// the call that it hands on. Nothing is decided here.
+// The archive for C of modem_c (include/dimpstea.h): its calls, exported under their own names, each with the clauses
+// of the call that it hands on. Nothing is decided here.
 
 #![tactic(auto)]
 
