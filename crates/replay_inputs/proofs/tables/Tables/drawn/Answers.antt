@@ -1,0 +1,13 @@
+-- `replay_inputs::tables::Tables::drawn` is safe: a layout's sizes are small. Assumes nothing.
+use Rattle.std.proofs.Common.{arith}
+use Rattle.level.specs.SizedLaws.{sized}
+use Rattle.replay_inputs.proofs.tables.Tables.drawn.Goals as goal
+
+pub entries-requires : goal.entries-requires
+entries-requires c = sized _ c.requires
+
+pub draw_markers-requires : goal.draw_markers-requires
+draw_markers-requires c = (
+  sized _ c.requires,
+  omega (arith, c.deref_mut-2.ensures.len, c.in_ok-markers.ensures.len, c.entries.ensures),
+)
