@@ -1,5 +1,5 @@
 -- `Layout::memory_len` meets its contract: no memory is above 1,378,560 complex numbers. Assumes nothing.
-use Rattle.std.proofs.Common.{arith}
+use Rattle.std.proofs.Common.{arith, refl}
 use Rattle.level.specs.Lengths.{memory_length}
 use Rattle.level.specs.SizedLaws.{sized}
 use Rattle.level.proofs.Layout.memory_len.Goals as goal
@@ -10,16 +10,13 @@ overflow_mul-result c = omega (arith, sized _ c.requires)
 pub overflow_add-result : goal.overflow_add-result
 overflow_add-result c = omega (arith, sized _ c.requires)
 
+pub part_len-requires : goal.part_len-requires
+part_len-requires c = sized _ c.requires
+
 pub overflow_mul-result-2 : goal.overflow_mul-result-2
-overflow_mul-result-2 c = omega (arith, sized _ c.requires)
-
-pub overflow_add-result-2 : goal.overflow_add-result-2
-overflow_add-result-2 c = omega (arith, sized _ c.requires)
-
-pub overflow_mul-result-3 : goal.overflow_mul-result-3
 unfolding memory_length
-overflow_mul-result-3 c = omega (arith, (sized _ c.requires).memory_most)
+overflow_mul-result-2 c = rw c.part_len.ensures (omega (arith, (sized _ c.requires).memory_most))
 
 pub returns : goal.returns
 unfolding memory_length
-returns c = omega arith
+returns c = rw c.part_len.ensures refl
