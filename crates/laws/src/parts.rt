@@ -3,16 +3,14 @@
 ghost use Rattle.std.specs.Prelude.{◌≡◌};
 ghost use Rattle.laws.specs.Parts.{any_outside};
 
-// Whether a part is outside low to high; a NaN is. Looks at every part, with no branch: rows are long and their parts
-// seldom outside.
+// Whether a part is outside low to high; a NaN is. No part behind the first such is looked at.
 pub fn any_outside(parts: &[f64], low: f64, high: f64) -> bool
     ensures { result ≡ any_outside low high parts.now }
 {
-    let mut outside = false;
     for part in parts {
         if !crate::in_range(*part, low, high) {
-            outside = true;
+            return true;
         }
     }
-    outside
+    false
 }
