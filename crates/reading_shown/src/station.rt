@@ -69,12 +69,18 @@ impl Station {
         })
     }
 
-    // Feeds of 4,000 samples, from the number of the first on; the position of the last release, or 0.
-    pub fn feed(&mut self, number: u64, samples: &[f64]) -> Result<u64, Failure> {
-        let found = self
-            .receiver
-            .feed_all(self.alloc, &self.sent.tables, number, samples)?;
-        Ok(found.last().map_or(0, |d| d.position))
+    // Feeds of 4,000 samples, from the number of the first on: the position of the last release, or 0. A refused feed is
+    // shown, and those after it go on.
+    pub fn feed(&mut self, rt: &impl Print, number: u64, samples: &[f64]) -> io::Result<u64> {
+        let mut at = number;
+        let mut last = 0;
+        for part in samples.chunks(8000) {
+            if let Some(found) = self.receiver.detect(rt, &self.sent.tables, at, part)? {
+                last = found.position;
+            }
+            at = at.saturating_add(4000);
+        }
+        Ok(last)
     }
 
     pub fn reading(&self, frame: Frame<'_>, buffers: &mut Buffers) -> Result<Reading, Refusal> {

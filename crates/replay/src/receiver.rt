@@ -1,11 +1,12 @@
 // A receiver and its feeds.
-use crate::Detection;
+use crate::{Detection, show_refusal};
 use hold::Release;
 use refusal::{Position, Refusal};
 use replay_inputs::failure::Failure;
 use replay_inputs::tables::Tables;
 use rx::State;
 use std::alloc::Global;
+use std::io;
 
 // A receiver's state, and the memory that it stands in.
 #[derive(Drop)]
@@ -53,25 +54,24 @@ impl Receiver {
         fed.answer
     }
 
-    // Feeds of 4,000 samples, two numbers each; what they release.
-    pub fn feed_all(
+    // One feed, and the detection that it releases. A refusal is shown, and releases none.
+    pub fn detect(
         &mut self,
-        alloc: Global,
+        rt: &impl Print,
         tables: &Tables,
-        first: u64,
+        number: u64,
         samples: &[f64],
-    ) -> Result<Vec<Detection>, Failure> {
-        let mut found = Vec::new(alloc);
-        let mut number = first;
-        for part in samples.chunks(8000) {
-            if let Release::Released(p, m) = self.feed(tables, number, part)? {
-                found.push(Detection {
-                    position: p.0,
-                    metric_bits: replay_inputs::bits_of(m),
-                })?;
+    ) -> io::Result<Option<Detection>> {
+        match self.feed(tables, number, samples) {
+            Ok(Release::NoRelease) => Ok(None),
+            Ok(Release::Released(p, m)) => Ok(Some(Detection {
+                position: p.0,
+                metric_bits: replay_inputs::bits_of(m),
+            })),
+            Err(r) => {
+                show_refusal(rt, r)?;
+                Ok(None)
             }
-            number = number.saturating_add(4000);
         }
-        Ok(found)
     }
 }

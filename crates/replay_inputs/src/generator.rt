@@ -47,4 +47,10 @@ impl Generator {
         let upper = (self.state / 0x2_0000_0000) as u32;
         upper as f64 * 0.0000000004656612873077393 * 16.0 - 8.0
     }
+    // Noise on each number.
+    pub fn add_noise(&mut self, out: &mut [f64]) {
+        for x in out {
+            *x += self.noise();
+        }
+    }
 }

@@ -2,9 +2,10 @@
 ghost use Rattle.std.specs.Prelude.{◌≡◌, ◌+◌, ◌*◌, ◌<◌, ◌≤◌, length, vec_len, IfOk};
 ghost use Rattle.level.specs.Rows.{IsLayout};
 ghost use Rattle.level.specs.Sized.{Sized};
-ghost use Rattle.replay_inputs.specs.Table.{entries};
+ghost use Rattle.replay_inputs.specs.Table.{entries, row_numbers};
 
 use crate::generator::Generator;
+use crate::lent::LentTables;
 use complex::Complex;
 use level::Layout;
 use std::alloc::{AllocError, Global};
@@ -26,11 +27,9 @@ impl Tables {
         ensures { IfOk result (λ t. (t.layout ≡ l) × (vec_len t.book ≡ 6000)) }
     {
         let mut book = vec![in alloc; 0.0; 6000]?;
-        turn_book(&mut book);
         let mut markers = vec![in alloc; 0u16; entries(l)]?;
-        draw_markers(l, generator, &mut markers);
         let mut phasors = vec![in alloc; 0.0; 2 * (l.nc * l.nsym)]?;
-        draw_phasors(&book, generator, &mut phasors);
+        draw(l, generator, &mut book, &mut markers, &mut phasors);
         Ok(Tables {
             layout: l,
             book,
@@ -38,6 +37,32 @@ impl Tables {
             phasors,
         })
     }
+
+    pub fn lent(&self) -> LentTables<'_>
+        ensures { (result.layout ≡ self.now.layout) × (length result.book.now ≡ vec_len self.now.book) }
+    {
+        LentTables {
+            layout: self.layout,
+            book: &self.book,
+            markers: &self.markers,
+            phasors: &self.phasors,
+        }
+    }
+}
+
+// The turn book, then the marker table and the phasors of a layout from the generator, as many as there is room for.
+pub fn draw(
+    l: Layout,
+    generator: &mut Generator,
+    book: &mut [f64],
+    markers: &mut [u16],
+    phasors: &mut [f64],
+)
+    requires { Sized l × (length book.old ≡ 6000) × (length markers.old ≡ entries l) }
+{
+    turn_book(book);
+    draw_markers(l, generator, markers);
+    draw_phasors(book, generator, phasors);
 }
 
 // The turn book: 3,000 numbers of size 0.9999, each turned by -2π / 3000 from the one before.
@@ -59,11 +84,19 @@ fn turn_book(out: &mut [f64])
 }
 
 // The entries of a marker table: a value and a flag for each marker and symbol of each carrier.
-fn entries(l: Layout) -> usize
+pub fn entries(l: Layout) -> usize
     requires { Sized l }
     ensures { result ≡ entries l }
 {
     l.nc * (l.markers + l.nsym)
+}
+
+// The numbers of the rows of so many frames.
+pub fn row_numbers(l: Layout, frames: usize) -> usize
+    requires { IsLayout l × (frames ≤ 4) }
+    ensures { result ≡ row_numbers l frames }
+{
+    2 * (l.nc * l.row_len(frames))
 }
 
 // Marker value i of a carrier: a draw from the i-th of as many equal parts of the frame as there are markers.
@@ -85,7 +118,7 @@ fn mark(l: Layout, c: usize, i: usize, v: usize, out: &mut [u16])
 }
 
 // The marker table of a layout, in entries that are all 0.
-fn draw_markers(l: Layout, generator: &mut Generator, out: &mut [u16])
+pub fn draw_markers(l: Layout, generator: &mut Generator, out: &mut [u16])
     requires { Sized l × (length out.old ≡ entries l) }
 {
     for c in 0..l.nc {

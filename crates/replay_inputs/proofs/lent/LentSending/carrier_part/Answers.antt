@@ -1,7 +1,7 @@
--- `replay_inputs::sending::Sending::carrier_part` is safe: a stagger and a carrier's Hz are small. Assumes nothing.
+-- `replay_inputs::lent::LentSending::carrier_part` is safe: a stagger and a carrier's Hz are small. Assumes nothing.
 use Rattle.std.proofs.Common.{◌%◌, ◌≤◌, mul-le-mul, arith}
 use Rattle.level.specs.SizedLaws.{sized, carrier_most, stagger_within}
-use Rattle.replay_inputs.proofs.sending.Sending.carrier_part.Goals as goal
+use Rattle.replay_inputs.proofs.lent.LentSending.carrier_part.Goals as goal
 
 pub overflow_add-from : goal.overflow_add-from
 overflow_add-from c =

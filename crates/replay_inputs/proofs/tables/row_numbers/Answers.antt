@@ -1,7 +1,7 @@
--- `replay_inputs::sending::row_numbers` is safe: a layout has few carriers, and a row few symbols. Assumes nothing.
+-- `replay_inputs::tables::row_numbers` is safe: a layout has few carriers, and a row few symbols. Assumes nothing.
 use Rattle.std.proofs.Common.{◌≤◌, arith, mul-le-mul}
 use Rattle.level.specs.SizedLaws.{sized, row_most}
-use Rattle.replay_inputs.proofs.sending.row_numbers.Goals as goal
+use Rattle.replay_inputs.proofs.tables.row_numbers.Goals as goal
 
 pub overflow_mul-result : goal.overflow_mul-result
 overflow_mul-result c =
