@@ -1,5 +1,5 @@
 // A receiver, what was sent to it, and its readings.
-ghost use Rattle.std.specs.Prelude.{◌≤◌};
+ghost use Rattle.std.specs.Prelude.{◌≡◌, ◌≤◌, length, IsOkAnd};
 
 use crate::shown;
 use reading::Reading;
@@ -69,9 +69,19 @@ impl Station {
         })
     }
 
-    // Feeds of 4,000 samples, from the number of the first on: the position of the last release, or 0. A refused feed is
-    // shown, and those after it go on.
-    pub fn feed(&mut self, rt: &impl Print, number: u64, samples: &[f64]) -> io::Result<u64> {
+    // Feeds of 4,000 samples, from the number of the first on: the position of the last release, or 0. A refused feed
+    // ends it.
+    pub fn feed(&mut self, number: u64, samples: &[f64]) -> Result<u64, Failure>
+        ensures { length samples.now ≡ 0 → IsOkAnd result (λ p. p ≡ 0) }
+    {
+        let found = self
+            .receiver
+            .feed_all(self.alloc, &self.sent.tables, number, samples)?;
+        Ok(found.last().map_or(0, |d| d.position))
+    }
+
+    // The same, where a refused feed is shown, and those after it go on.
+    pub fn detect(&mut self, rt: &impl Print, number: u64, samples: &[f64]) -> io::Result<u64> {
         let mut at = number;
         let mut last = 0;
         for part in samples.chunks(8000) {
@@ -149,5 +159,45 @@ impl Station {
             Ok(x) => shown::located(rt, x),
             Err(q) => println!(rt; " refused {}", q.number()),
         }
+    }
+}
+
+#[cfg(test)]
+mod tests {
+    use super::*;
+
+    // Where two frames with noise in the layout 500/4 are released: one after the other, and both in one list.
+    #[derive(Drop)]
+    struct Released {
+        first: u64,
+        second: u64,
+        last: u64,
+        again: Result<u64, Failure>,
+    }
+
+    // The list is fed once more at the end.
+    fn fed(alloc: Global) -> Result<Released, Failure> {
+        let mut station = Station::new(alloc, 500, 4, 2, 0.0 / 0.0)?;
+        let mut other = Station::new(alloc, 500, 4, 2, 0.0 / 0.0)?;
+        let signal = station.sent.noisy(alloc, 26800)?;
+        let (early, late) = signal.split_at(32000);
+        Ok(Released {
+            first: station.feed(1000, early)?,
+            second: station.feed(17000, late)?,
+            last: other.feed(1000, &signal)?,
+            again: other.feed(1000, &signal),
+        })
+    }
+
+    // The Rust's positions, and 01's condition 19: a number that isn't the sample end.
+    #[test]
+    fn last_release_of_two_frames(rt: HostRuntime) {
+        let Ok(r) = fed(rt.alloc()) else {
+            panic!(rt; "not fed");
+        };
+        assert_eq!(rt; r.first, 1966);
+        assert_eq!(rt; r.second, 14542);
+        assert_eq!(rt; r.last, 14542);
+        assert!(rt; matches!(r.again, Err(Failure::Refused(Refusal::SampleNumber))));
     }
 }

@@ -1,4 +1,6 @@
 // A receiver and its feeds.
+ghost use Rattle.std.specs.Prelude.{◌≡◌, ◌+◌, ◌/◌, ◌≤◌, length, vec_len, IsOk, IfOk};
+
 use crate::{Detection, show_refusal};
 use hold::Release;
 use refusal::{Position, Refusal};
@@ -73,5 +75,73 @@ impl Receiver {
                 Ok(None)
             }
         }
+    }
+
+    // Feeds of 4,000 samples, two numbers each, whose first sample has the number given: what they release, of each at
+    // most one detection. A refused feed ends it.
+    pub fn feed_all(
+        &mut self,
+        alloc: Global,
+        tables: &Tables,
+        first: u64,
+        samples: &[f64],
+    ) -> Result<Vec<Detection>, Failure>
+        ensures few { IfOk result (λ found. vec_len found ≤ (length samples.now + 7999) / 8000) }
+        ensures empty { length samples.now ≡ 0 → IsOk result }
+    {
+        let mut found = Vec::new(alloc);
+        let mut number = first;
+        for part in samples.chunks(8000) {
+            if let Release::Released(p, m) = self.feed(tables, number, part)? {
+                found.push(Detection {
+                    position: p.0,
+                    metric_bits: replay_inputs::bits_of(m),
+                })?;
+            }
+            number = number.saturating_add(4000);
+        }
+        Ok(found)
+    }
+}
+
+#[cfg(test)]
+mod tests {
+    use super::*;
+    use replay_inputs::sending::Sending;
+
+    // What two frames in the layout 500/6 release where their first sample has that number.
+    fn released(alloc: Global, first: u64) -> Result<Vec<Detection>, Failure> {
+        let sent = Sending::new(alloc, 500, 6, 2)?;
+        let signal = sent.noisy(alloc, 25700)?;
+        let mut receiver = Receiver::open(alloc, &sent.tables, 0.0 / 0.0)?;
+        receiver.feed_all(alloc, &sent.tables, first, &signal)
+    }
+
+    // The detections that the Rust answers with.
+    #[test]
+    fn detections_of_two_frames(rt: HostRuntime) {
+        let Ok(found) = released(rt.alloc(), 1000) else {
+            panic!(rt; "not fed");
+        };
+        let first = Detection {
+            position: 1972,
+            metric_bits: 0x4083_79c3_c09e_f00d,
+        };
+        let second = Detection {
+            position: 13972,
+            metric_bits: 0x4082_9b19_fd02_02f6,
+        };
+        assert!(rt; found.as_slice() == [first, second].as_slice());
+    }
+
+    // 01, condition 19: a number that isn't the sample end.
+    #[test]
+    fn refused_feed(rt: HostRuntime) {
+        assert!(rt;
+            matches!(
+                released(rt.alloc(), 1001),
+                Err(Failure::Refused(Refusal::SampleNumber))
+            )
+        );
     }
 }
