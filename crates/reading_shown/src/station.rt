@@ -1,5 +1,7 @@
 // A receiver, what was sent to it, and its readings.
-ghost use Rattle.std.specs.Prelude.{◌≡◌, ◌≤◌, length, IsOkAnd};
+ghost use Rattle.std.specs.Prelude.{◌≤◌};
+ghost use Rattle.replay.specs.Feeds.{part_of, parts};
+ghost use Rattle.reading_shown.specs.LastFed.{FedLast, SameSent};
 
 use crate::shown;
 use reading::Reading;
@@ -72,7 +74,10 @@ impl Station {
     // Feeds of 4,000 samples, from the number of the first on: the position of the last release, or 0. A refused feed
     // ends it.
     pub fn feed(&mut self, number: u64, samples: &[f64]) -> Result<u64, Failure>
-        ensures { length samples.now ≡ 0 → IsOkAnd result (λ p. p ≡ 0) }
+        ensures calls { FedLast (part_of self.old.sent.tables number samples.now) (parts samples.now)
+            self.old.receiver.state self.old.receiver.memory.items result self.new.receiver.state
+            self.new.receiver.memory.items }
+        ensures sent { SameSent self.old.sent self.new.sent }
     {
         let found = self
             .receiver

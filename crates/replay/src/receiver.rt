@@ -1,5 +1,6 @@
 // A receiver and its feeds.
-ghost use Rattle.std.specs.Prelude.{◌≡◌, ◌+◌, ◌/◌, ◌≤◌, length, vec_len, IsOk, IfOk};
+ghost use Rattle.rx.specs.Feed.{FedBy};
+ghost use Rattle.replay.specs.Feeds.{given_by, part_of, parts, FedInParts};
 
 use crate::{Detection, show_refusal};
 use hold::Release;
@@ -39,7 +40,10 @@ impl Receiver {
         tables: &Tables,
         number: u64,
         samples: &[f64],
-    ) -> Result<Release, Refusal> {
+    ) -> Result<Release, Refusal>
+        ensures { FedBy (given_by tables.now number samples.now) self.old.state self.old.memory.items result
+            self.new.state self.new.memory.items }
+    {
         let l = tables.layout;
         let fed = rx::feed(
             l.bandwidth,
@@ -77,8 +81,8 @@ impl Receiver {
         }
     }
 
-    // Feeds of 4,000 samples, two numbers each, whose first sample has the number given: what they release, of each at
-    // most one detection. A refused feed ends it.
+    // Feeds of 4,000 samples, two numbers each, whose first sample has the number given: what they release. A refused
+    // feed ends it.
     pub fn feed_all(
         &mut self,
         alloc: Global,
@@ -86,8 +90,8 @@ impl Receiver {
         first: u64,
         samples: &[f64],
     ) -> Result<Vec<Detection>, Failure>
-        ensures few { IfOk result (λ found. vec_len found ≤ (length samples.now + 7999) / 8000) }
-        ensures empty { length samples.now ≡ 0 → IsOk result }
+        ensures { FedInParts (part_of tables.now first samples.now) (parts samples.now) self.old.state
+            self.old.memory.items result self.new.state self.new.memory.items }
     {
         let mut found = Vec::new(alloc);
         let mut number = first;
